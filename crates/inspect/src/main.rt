@@ -1,0 +1,33 @@
+// Reads a formula on standard input and prints its shape, or why it is refused.
+
+mod shape;
+mod refusal;
+
+use faults::fault::Fault;
+use qbf::formula::Formula;
+use qbf::read::read;
+use std::env;
+use std::error::AnyError;
+use std::io::Read;
+
+const USAGE: &str = "usage: inspect < FORMULA
+Prints the shape of a formula in QDIMACS, or the refusal 'layer number line', its cause and the faulty line.";
+
+fn run(rt: &LibcRuntime) -> Result<(), AnyError> {
+    let mut args = env::args(rt)?;
+    let _name = args.next();
+    if args.next().is_some() {
+        rt.println(USAGE)?;
+        return Ok(());
+    }
+    let mut text = Vec::new(rt.alloc());
+    rt.stdin().read_to_end(&mut text)?;
+    match read(text.as_slice()) {
+        Ok(formula) => shape::print(rt, &formula),
+        Err(fault) => refusal::print(rt, fault, text.as_slice()),
+    }
+}
+
+fn main(rt: LibcRuntime) -> Result<(), AnyError> {
+    rt.report(run(&rt))
+}

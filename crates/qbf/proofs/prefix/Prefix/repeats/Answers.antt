@@ -1,0 +1,6 @@
+use borrow.Author.Needs.{needs}
+use Rattle.qbf.proofs.Tables.{repeats-last}
+use Rattle.qbf.proofs.prefix.Prefix.repeats.Needs as need
+
+pub returns : need.returns
+returns c = search (needs, repeats-last)

@@ -1,0 +1,12 @@
+pub mod Limits
+pub mod Syntax
+pub mod WellFormed
+pub mod Stored
+pub mod Kinds
+pub mod Literals
+pub mod Gathered
+pub mod Parse
+pub mod Form
+pub mod Bound
+pub mod Held
+pub mod Places

@@ -1,0 +1,25 @@
+ghost use mathlib.Core.Path.{_≡_};
+ghost use Prim.Native.Nat.{ℕ, _≤_};
+ghost use Rattle.qbf.specs.Limits.{maxVariables};
+ghost use Rattle.qbf.specs.Bound.{bindAll};
+
+use crate::literal::mask;
+
+// The mask of the variables bound once these are too, or none where one is out of range or bound already.
+pub(crate) fn bind(variables: &[u32], highest: u32, bound: u64) -> Option<u64>
+    requires { ⌜ highest ≤ maxVariables ⌝ }
+    ensures { λ r. ⌜ r ≡ bindAll highest bound (now (variables .entry)) ⌝ }
+{
+    let mut all = bound;
+    for v in variables {
+        if *v == 0 || *v > highest {
+            return None;
+        }
+        let bit = mask(*v);
+        if all & bit != 0 {
+            return None;
+        }
+        all |= bit;
+    }
+    Some(all)
+}

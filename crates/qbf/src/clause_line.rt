@@ -1,0 +1,40 @@
+ghost use mathlib.Core.Path.{_≡_};
+ghost use Prim.Native.Nat.{ℕ, _≤_};
+ghost use Rattle.std.specs.Options.{okOr, mapped};
+ghost use Rattle.qbf.specs.Limits.{maxVariables};
+ghost use Rattle.qbf.specs.Held.{blocksIn};
+ghost use Rattle.qbf.specs.Gathered.{nothing, gathered};
+ghost use Rattle.qbf.specs.Parse.{clauseLiterals, readClause};
+
+use crate::counts::Counts;
+use crate::gather::Gathered;
+use crate::gather::gather;
+use crate::literal::Clause;
+use crate::prefix::Prefix;
+use faults::cause::Cause;
+use faults::fault::Fault;
+use text::fields::Fields;
+
+// The literals of a clause line.
+fn literals_of(line: &[u8], at: Fault) -> Result<Gathered, Fault>
+    ensures { λ r. ⌜ r ≡ okOr (mapped (gathered nothing) (clauseLiterals (now (line .entry)))) at ⌝ }
+{
+    let mut fields = Fields::of(line, at)?;
+    gather(&mut fields, at)
+}
+
+// Reads a clause line, on line n.
+pub(crate) fn read_clause(line: &[u8], n: usize, counts: Counts, prefix: &Prefix) -> Result<Clause, Fault>
+    requires { ⌜ counts .variables ≤ maxVariables ⌝ }
+    ensures { λ r. ⌜ r ≡ readClause n counts (blocksIn (now (prefix .entry))) (now (line .entry)) ⌝ }
+{
+    let literals = literals_of(line, Fault { cause: Cause::FormulaForm, line: n })?;
+    if literals.highest > counts.variables {
+        return Err(Fault { cause: Cause::BadVariable, line: n });
+    }
+    let used = literals.clause.positive | literals.clause.negative;
+    if used & prefix.bound != used {
+        return Err(Fault { cause: Cause::UnboundVariable, line: n });
+    }
+    Ok(literals.clause)
+}

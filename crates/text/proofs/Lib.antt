@@ -1,0 +1,4 @@
+mod Cuts
+mod DigitSteps
+pub mod Layouts
+pub mod Decimal

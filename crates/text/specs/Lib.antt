@@ -1,0 +1,5 @@
+pub mod Rows
+pub mod Numeral
+pub mod Taken
+pub mod Faulty
+pub mod Layout
