@@ -1,6 +1,5 @@
 ghost use mathlib.Core.Path.{_≡_};
 ghost use Rattle.faults.specs.Refusals.{layerOf, numberOf};
-
 use crate::layer::Layer;
 use std::fmt;
 
@@ -53,7 +52,8 @@ impl Cause {
             | Cause::BadAlternation
             | Cause::UnboundVariable
             | Cause::ClauseCount => Layer::Formula,
-            Cause::CertificateForm | Cause::OtherFormula | Cause::BadEntry | Cause::TableFull => Layer::Certificate,
+            Cause::CertificateForm | Cause::OtherFormula | Cause::BadEntry | Cause::TableFull =>
+                Layer::Certificate,
             Cause::RootUncovered | Cause::EntryUnsupported => Layer::Check,
             Cause::BadPosition
             | Cause::StoreFull { .. }
@@ -96,24 +96,35 @@ impl Cause {
 // A cause in words, with what to change.
 fn words(cause: Cause) -> &'static str {
     match cause {
-        Cause::FormulaForm => "a line is not of the form that is due here, or the text ends before its line 'p'",
-        Cause::OverLimit => "too large: at most 64 variables, 128 clauses, 16 blocks and 12 variables in a block",
-        Cause::BadVariable => "a variable is above the count in line 'p', or stands in the blocks twice",
-        Cause::BadAlternation => "blocks have to alternate, and after a universal block comes an existential one",
+        Cause::FormulaForm =>
+            "a line is not of the form that is due here, or the text ends before its line 'p'",
+        Cause::OverLimit =>
+            "too large: at most 64 variables, 128 clauses, 16 blocks and 12 variables in a block",
+        Cause::BadVariable =>
+            "a variable is above the count in line 'p', or stands in the blocks twice",
+        Cause::BadAlternation =>
+            "blocks have to alternate, and after a universal block comes an existential one",
         Cause::UnboundVariable => "a literal's variable stands in no block: bind it in one",
-        Cause::ClauseCount => "there have to be exactly as many clause lines as line 'p' says, and nothing after them",
-        Cause::CertificateForm => "a line is not of the form that is due here, or the text ends before its line 3",
-        Cause::OtherFormula => "the counts of blocks and clauses are not the formula's: is this its certificate?",
-        Cause::BadEntry => "the entry does not fit the formula: look at its level, its clauses and its reply",
+        Cause::ClauseCount =>
+            "there have to be exactly as many clause lines as line 'p' says, and nothing after them",
+        Cause::CertificateForm =>
+            "a line is not of the form that is due here, or the text ends before its line 3",
+        Cause::OtherFormula =>
+            "the counts of blocks and clauses are not the formula's: is this its certificate?",
+        Cause::BadEntry =>
+            "the entry does not fit the formula: look at its level, its clauses and its reply",
         Cause::TableFull => "there are more entries than places in the table: lend a larger one",
         Cause::RootUncovered => "no entry covers the root: the certificate decides nothing",
         Cause::EntryUnsupported => "an entry is not supported by the entries of the next level",
-        Cause::BadPosition => "more blocks are decided than there are, or the word has a 1 off their variables",
-        Cause::StoreFull { .. } => "a store is full: begin with a larger table, or forget some levels",
+        Cause::BadPosition =>
+            "more blocks are decided than there are, or the word has a 1 off their variables",
+        Cause::StoreFull { .. } =>
+            "a store is full: begin with a larger table, or forget some levels",
         Cause::RootUndecided => "neither store covers the root yet: query it first",
         Cause::BufferShort { .. } => "the buffer is shorter than the text: lend a larger one",
         Cause::BadLevel => "there is no such level: levels go from 1 to the number of blocks",
-        Cause::BadValue => "the value is too large for its block: below 2 to the power of its width",
+        Cause::BadValue =>
+            "the value is too large for its block: below 2 to the power of its width",
         Cause::InputTooLong => "the input is longer than 32768 bytes",
     }
 }

@@ -1,10 +1,9 @@
 ghost use mathlib.Core.Path.{_≡_};
 ghost use Rattle.faults.specs.Refusals.{layerOf, numberOf};
-
 use crate::cause::Cause;
-use crate::layer::Layer;
 use crate::cause::CauseDebug;
 use crate::cause::CausePartialEq;
+use crate::layer::Layer;
 
 // A refusal: its cause, and the line of the text at fault, from 1, or 0 where it stands in no line.
 #[derive(Clone, Copy, PartialEq, Eq, Debug, Drop)]

@@ -1,7 +1,7 @@
 // Reads a formula on standard input and prints its shape, or why it is refused.
 
-mod shape;
 mod refusal;
+mod shape;
 
 use faults::fault::Fault;
 use qbf::formula::Formula;

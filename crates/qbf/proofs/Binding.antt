@@ -30,12 +30,13 @@ twice : (v : ℕ) (ws vs : List ℕ) → elem v ws ≡ true → distinct (ws ++ 
 twice v [] vs e = cc
 twice v (w ∷ ws) vs e =
     elim (cases-eq v w) [
-      inl h ↦
-        let again : elem w (ws ++ (v ∷ vs)) ≡ true = elem-append w ws (v ∷ vs) ∙ or-right (elem w ws) (elem w (v ∷ vs)) (or-left (eqb w v) (elem w vs) (eq-eqb w v (sym h))) in
-        ap (λ t. not t && distinct (ws ++ (v ∷ vs))) again
-    | inr n ↦
-        let later : elem v ws ≡ true = sym (ap (λ t. t || elem v ws) (ne-eqb v w n)) ∙ e in
-        and-right (not (elem w (ws ++ (v ∷ vs)))) (distinct (ws ++ (v ∷ vs))) (twice v ws vs later) ]
+      | inl h ↦
+          let again : elem w (ws ++ (v ∷ vs)) ≡ true = elem-append w ws (v ∷ vs) ∙ or-right (elem w ws) (elem w (v ∷ vs)) (or-left (eqb w v) (elem w vs) (eq-eqb w v (sym h))) in
+          ap (λ t. not t && distinct (ws ++ (v ∷ vs))) again
+      | inr n ↦
+          let later : elem v ws ≡ true = sym (ap (λ t. t || elem v ws) (ne-eqb v w n)) ∙ e in
+          and-right (not (elem w (ws ++ (v ∷ vs)))) (distinct (ws ++ (v ∷ vs))) (twice v ws vs later)
+    ]
 
 -- One number more, which did not stand before.
 distinct-push : (v : ℕ) (ws : List ℕ) → distinct ws ≡ true → elem v ws ≡ false → distinct (ws ++ (v ∷ [])) ≡ true
@@ -43,12 +44,13 @@ distinct-push v [] d e = refl
 distinct-push v (w ∷ ws) d e =
     let p = and-parts (not (elem w ws)) (distinct ws) d in
     elim (cases-eq v w) [
-      inl h ↦ let t : true ≡ false = sym (ap (λ t. t || elem v ws) (eq-eqb v w h)) ∙ e in cc
-    | inr n ↦
-        let fresh : elem w (ws ++ (v ∷ [])) ≡ false =
-              elem-append w ws (v ∷ []) ∙ ap₂ (λ a b. a || (b || false)) (not-true (elem w ws) (p .0)) (ne-eqb w v (λ h. n (sym h))) in
-        let later : elem v ws ≡ false = sym (ap (λ t. t || elem v ws) (ne-eqb v w n)) ∙ e in
-        and-from (not (elem w (ws ++ (v ∷ [])))) (distinct (ws ++ (v ∷ []))) (not-from-false (elem w (ws ++ (v ∷ []))) fresh) (distinct-push v ws (p .1) later) ]
+      | inl h ↦ let t : true ≡ false = sym (ap (λ t. t || elem v ws) (eq-eqb v w h)) ∙ e in cc
+      | inr n ↦
+          let fresh : elem w (ws ++ (v ∷ [])) ≡ false =
+          elem-append w ws (v ∷ []) ∙ ap₂ (λ a b. a || (b || false)) (not-true (elem w ws) (p .0)) (ne-eqb w v (λ h. n (sym h))) in
+          let later : elem v ws ≡ false = sym (ap (λ t. t || elem v ws) (ne-eqb v w n)) ∙ e in
+          and-from (not (elem w (ws ++ (v ∷ [])))) (distinct (ws ++ (v ∷ []))) (not-from-false (elem w (ws ++ (v ∷ []))) fresh) (distinct-push v ws (p .1) later)
+    ]
 
 -- What a block of variables makes of those bound before, by its rules.
 abbrev pub bindRule : ℕ → List ℕ → List ℕ → Option ℕ
@@ -58,20 +60,22 @@ pub bound-by-rule : (highest : ℕ) (ws vs : List ℕ) → distinct ws ≡ true 
 bound-by-rule highest ws [] d p = rw append-nil (simp d)
 bound-by-rule highest ws (v ∷ vs) d p =
     elim (cases-bool (ranged highest v)) [
-      inr t ↦ simp t
-    | inl t ↦
-        let r = and-parts (leb 1 v) (leb v highest) t in
-        let free = mask-free v ws (leb-true 1 v (r .0)) p in
-        elim (cases-bool (elem v ws)) [
-          inl e ↦
-            let rule : (all (ranged highest) vs && distinct (ws ++ (v ∷ vs))) ≡ false = and-right (all (ranged highest) vs) (distinct (ws ++ (v ∷ vs))) (twice v ws vs e) in
-            simp (t, free, e, rule)
-        | inr e ↦
-            let one : bitOr (maskOf ws) (2 ^ (v - 1)) ≡ maskOf (ws ++ (v ∷ [])) = sym (mask-append ws (v ∷ []) ∙ ap (bitOr (maskOf ws)) (or-zero-r (2 ^ (v - 1)))) in
-            let more = bound-by-rule highest (ws ++ (v ∷ [])) vs (distinct-push v ws d e) (all-append positive ws (v ∷ []) ∙ and-from _ _ p (and-from _ _ (r .0) refl)) in
-            let whole : bindRule highest (ws ++ (v ∷ [])) vs ≡ cond (all (ranged highest) vs && distinct (ws ++ (v ∷ vs))) (Some (maskOf (ws ++ (v ∷ vs)))) None =
-                  ap (λ xs. cond (all (ranged highest) vs && distinct xs) (Some (maskOf xs)) None) (append-assoc ws (v ∷ []) vs) in
-            simp (t, free, e) (ap (λ m. bindAll highest m vs) one ∙ more ∙ whole) ] ]
+      | inr t ↦ simp t
+      | inl t ↦
+          let r = and-parts (leb 1 v) (leb v highest) t in
+          let free = mask-free v ws (leb-true 1 v (r .0)) p in
+          elim (cases-bool (elem v ws)) [
+            | inl e ↦
+                let rule : (all (ranged highest) vs && distinct (ws ++ (v ∷ vs))) ≡ false = and-right (all (ranged highest) vs) (distinct (ws ++ (v ∷ vs))) (twice v ws vs e) in
+                simp (t, free, e, rule)
+            | inr e ↦
+                let one : bitOr (maskOf ws) (2 ^ (v - 1)) ≡ maskOf (ws ++ (v ∷ [])) = sym (mask-append ws (v ∷ []) ∙ ap (bitOr (maskOf ws)) (or-zero-r (2 ^ (v - 1)))) in
+                let more = bound-by-rule highest (ws ++ (v ∷ [])) vs (distinct-push v ws d e) (all-append positive ws (v ∷ []) ∙ and-from _ _ p (and-from _ _ (r .0) refl)) in
+                let whole : bindRule highest (ws ++ (v ∷ [])) vs ≡ cond (all (ranged highest) vs && distinct (ws ++ (v ∷ vs))) (Some (maskOf (ws ++ (v ∷ vs)))) None =
+                ap (λ xs. cond (all (ranged highest) vs && distinct xs) (Some (maskOf xs)) None) (append-assoc ws (v ∷ []) vs) in
+                simp (t, free, e) (ap (λ m. bindAll highest m vs) one ∙ more ∙ whole)
+          ]
+    ]
 
 -- The steps of a loop that binds variables, at index i.
 module _ (highest all : ℕ) (xs : List ℕ) (i : ℕ) (x : Option ℕ) (same : bindAll highest all (drop i xs) ≡ x) where

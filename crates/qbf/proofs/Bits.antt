@@ -42,8 +42,9 @@ bit-power-other (suc c) (suc d) n =
 pub bit-power : (c d : ℕ) → bit d (2 ^ c) ≡ cond (eqb d c) 1 0
 bit-power c d =
     elim (cases-eq d c) [
-      inl h ↦ ap (λ z. bit z (2 ^ c)) h ∙ bit-power-same c ∙ sym (cond-true (eqb d c) 1 0 (eq-eqb d c h))
-    | inr h ↦ bit-power-other c d h ∙ sym (cond-false (eqb d c) 1 0 (ne-eqb d c h)) ]
+      | inl h ↦ ap (λ z. bit z (2 ^ c)) h ∙ bit-power-same c ∙ sym (cond-true (eqb d c) 1 0 (eq-eqb d c h))
+      | inr h ↦ bit-power-other c d h ∙ sym (cond-false (eqb d c) 1 0 (ne-eqb d c h))
+    ]
 
 -- One bit is masked out.
 pub and-power : (c a : ℕ) → bitAnd a (2 ^ c) ≡ bit c a * 2 ^ c
@@ -77,7 +78,7 @@ and-or-within zero p a b h = let z : p ≡ 0 = omega arith in simp z
 and-or-within (suc n) p a b h =
     let high = and-or-within n (p / 2) (a / 2) (b / 2) (omega arith) in
     let x : bitAnd (p / 2) (bitOr a b / 2) ≡ bitOr (bitAnd p a / 2) (bitAnd p b / 2) =
-          ap (bitAnd (p / 2)) (or-half a b) ∙ high ∙ ap₂ bitOr (sym (and-half p a)) (sym (and-half p b)) in
+    ap (bitAnd (p / 2)) (or-half a b) ∙ high ∙ ap₂ bitOr (sym (and-half p a)) (sym (and-half p b)) in
     omega (arith, and-step p (bitOr a b), or-step a b, or-step (bitAnd p a) (bitAnd p b), and-step p a, and-step p b, x)
 
 pub and-or : (p a b : ℕ) → bitAnd p (bitOr a b) ≡ bitOr (bitAnd p a) (bitAnd p b)
@@ -122,7 +123,9 @@ both-inside a b m h k =
 pub inside-or : (a b m : ℕ) → inside (bitOr a b) m ≡ (inside a m && inside b m)
 inside-or a b m =
     elim (cases-bool (inside a m)) [
-      inl h ↦ (elim (cases-bool (inside b m)) [
-          inl k ↦ simp (h, k) (eq-eqb (bitAnd (bitOr a b) m) (bitOr a b) (both-inside a b m (eqb-true (bitAnd a m) a h) (eqb-true (bitAnd b m) b k)))
-        | inr k ↦ simp (h, k) (ne-eqb (bitAnd (bitOr a b) m) (bitOr a b) (λ e. eqb-false (bitAnd b m) b k (sub-on b (bitOr a b) m (ap (bitAnd b) (or-comm a b) ∙ sub-or b a) e))) ])
-    | inr h ↦ simp h (ne-eqb (bitAnd (bitOr a b) m) (bitOr a b) (λ e. eqb-false (bitAnd a m) a h (sub-on a (bitOr a b) m (sub-or a b) e))) ]
+      | inl h ↦ (elim (cases-bool (inside b m)) [
+        | inl k ↦ simp (h, k) (eq-eqb (bitAnd (bitOr a b) m) (bitOr a b) (both-inside a b m (eqb-true (bitAnd a m) a h) (eqb-true (bitAnd b m) b k)))
+        | inr k ↦ simp (h, k) (ne-eqb (bitAnd (bitOr a b) m) (bitOr a b) (λ e. eqb-false (bitAnd b m) b k (sub-on b (bitOr a b) m (ap (bitAnd b) (or-comm a b) ∙ sub-or b a) e)))
+      ])
+      | inr h ↦ simp h (ne-eqb (bitAnd (bitOr a b) m) (bitOr a b) (λ e. eqb-false (bitAnd a m) a h (sub-on a (bitOr a b) m (sub-or a b) e)))
+    ]

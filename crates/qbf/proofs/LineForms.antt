@@ -113,7 +113,7 @@ cnf-taken (w ∷ ws) us e =
     let r = and-parts (eqb (getD w 1 0) 110) _ (q .1) in
     let l = eqb-true (length w) 3 (p .0) in
     let word : w ≡ getD w 0 0 ∷ (getD w 1 0 ∷ (getD w 2 0 ∷ [])) =
-      cc (drop-more w 0 0 (omega arith), drop-more w 1 0 (omega arith), drop-more w 2 0 (omega arith), drop-all 3 w (omega arith)) in
+    cc (drop-more w 0 0 (omega arith), drop-more w 1 0 (omega arith), drop-more w 2 0 (omega arith), drop-all 3 w (omega arith)) in
     cc (eqb-true _ _ (q .0), eqb-true _ _ (r .0), eqb-true _ _ (r .1))) (λ _ e. absurd (none-some e))
 
 number-taken : (us : List (List ℕ)) (v : ℕ × List (List ℕ)) → takeNumber us ≡ Some v → us ≡ decimal (v .0) ∷ v .1
@@ -130,7 +130,7 @@ header-made line h k e =
     lettered line fs ws Problem f l k (λ b p s.
     let d = ended-made (w .1) _ h e in
     let is : ws ≡ codes "cnf" ∷ (decimal (h .variables) ∷ (decimal (h .clauses) ∷ [])) =
-      rw (← d .1) (cc (cnf-taken ws us c, number-taken us v n, number-taken (v .1) w m, d .0)) in
+    rw (← d .1) (cc (cnf-taken ws us c, number-taken us v n, number-taken (v .1) w m, d .0)) in
     rw (p, is) at s))))))
 
 pub header-accepted : (n : ℕ) (line : List ℕ) (h : Counts) → kindOf line ≡ Problem → readHeader n line ≡ Ok h
@@ -188,7 +188,7 @@ block-read n h bs next line b limit s g o =
     let w = and-parts (leb 1 (length (b .variables))) _ (g .width) in
     let us = all-holds (ranged (h .variables)) _ (ranged-writable (h .variables) limit) (b .variables) (g .range) in
     let m : variablesOf line ≡ Some (b .variables) =
-      rw (fields-unique s, letter-taken (b .quantifier) _, numbers-read (b .variables) (leb-true _ _ (w .0)) us) in
+    rw (fields-unique s, letter-taken (b .quantifier) _, numbers-read (b .variables) (leb-true _ _ (w .0)) us) in
     let t = or-from _ _ (lt-leb _ _ (g .room)) (le-ltb _ _ (leb-true _ _ (w .1))) in
     let u = not-from-true _ (and-from _ _ (g .range) (g .once)) in
     let v = or-from _ _ (g .turns) (not-from-true _ o) in

@@ -61,8 +61,9 @@ next-literal : (o : Option Literal) (ws : List (List ℕ)) (ls : List Literal) �
 next-literal None ws ls later h = cc
 next-literal (Some l) ws ls later h =
     elim (cases-eq (l .variable) 0) [
-      inl z ↦ last-literal ws ls (simp (eq-eqb (l .variable) 0 z) at h)
-    | inr n ↦ more-literals l (literalsOf ws) ls (le-leb 1 (l .variable) (omega arith)) later (simp (ne-eqb (l .variable) 0 n) at h) ]
+      | inl z ↦ last-literal ws ls (simp (eq-eqb (l .variable) 0 z) at h)
+      | inr n ↦ more-literals l (literalsOf ws) ls (le-leb 1 (l .variable) (omega arith)) later (simp (ne-eqb (l .variable) 0 n) at h)
+    ]
 
 literals-positive : (ws : List (List ℕ)) (ls : List Literal) → literalsOf ws ≡ Some ls → PositiveLiterals ls
 literals-positive [] ls e = cc
@@ -93,10 +94,13 @@ clause-bound : (h : Counts) (bs : List Block) (ls : List Literal) (bound : ℕ) 
 clause-bound h bs ls bound few binds p l =
     let t : all (λ l. leb (l .variable) (h .variables)) ls ≡ true = sym (high-test ls (h .variables)) ∙ le-leb (gathered nothing ls .highest) (h .variables) l in
     let w = all-weaker (λ l. leb (l .variable) (h .variables)) (λ l. leb (l .variable) maxVariables) (λ x k. le-leb (x .variable) maxVariables (omega (arith, leb-true (x .variable) (h .variables) k))) ls t in
-    let c = clause-gathered ls w in
-    (t, c, sym (ap (λ x. eqb (bitAnd (bitOr (x .positive) (x .negative)) bound) (bitOr (x .positive) (x .negative))) c
-      ∙ ap (λ m. eqb (bitAnd (bitOr (clauseOf ls .positive) (clauseOf ls .negative)) m) (bitOr (clauseOf ls .positive) (clauseOf ls .negative))) (binds .0)
-      ∙ closed-elem (boundIn bs) ls (binds .2) p))
+    let c = clause-gathered ls w in (
+      t,
+      c,
+      sym (ap (λ x. eqb (bitAnd (bitOr (x .positive) (x .negative)) bound) (bitOr (x .positive) (x .negative))) c
+          ∙ ap (λ m. eqb (bitAnd (bitOr (clauseOf ls .positive) (clauseOf ls .negative)) m) (bitOr (clauseOf ls .positive) (clauseOf ls .negative))) (binds .0)
+          ∙ closed-elem (boundIn bs) ls (binds .2) p),
+    )
 
 module _ (n : ℕ) (h : Counts) (p : Prefix) (line : List ℕ) (g : Gathered) (at : Fault) (few : h .variables ≤ maxVariables)
     (got : Ok g ≡ okOr (mapped (gathered nothing) (clauseLiterals line)) at) (low : g .highest ≤ h .variables) where
@@ -148,14 +152,15 @@ module _ (n : ℕ) (h : Counts) (p : Prefix) (q : Quantifier) (next : Bool) (lin
   pub block-over : (maxBlocks ≤ p .count) ⊎ (maxWidth < numbers .count) → placed (variablesOf line) ≡ Err (fault OverLimit n)
   block-over over = from (variablesOf line) refl
     where
-    from : (o : Option (List ℕ)) → o ≡ variablesOf line → placed o ≡ Err (fault OverLimit n)
-    from None o-is = absurd (none-read o-is)
-    from (Some vs) o-is =
-        let t : (leb maxBlocks (length bs) || ltb maxWidth (length vs)) ≡ true =
-              elim over [
-                inl m ↦ or-left (leb maxBlocks (length bs)) (ltb maxWidth (length vs)) (le-leb maxBlocks (length bs) (omega (arith, blocks-count p)))
-              | inr w ↦ or-right (leb maxBlocks (length bs)) (ltb maxWidth (length vs)) (lt-ltb maxWidth (length vs) (omega (arith, count-is vs o-is))) ] in
-        simp t
+      from : (o : Option (List ℕ)) → o ≡ variablesOf line → placed o ≡ Err (fault OverLimit n)
+      from None o-is = absurd (none-read o-is)
+      from (Some vs) o-is =
+          let t : (leb maxBlocks (length bs) || ltb maxWidth (length vs)) ≡ true =
+          elim over [
+            | inl m ↦ or-left (leb maxBlocks (length bs)) (ltb maxWidth (length vs)) (le-leb maxBlocks (length bs) (omega (arith, blocks-count p)))
+            | inr w ↦ or-right (leb maxBlocks (length bs)) (ltb maxWidth (length vs)) (lt-ltb maxWidth (length vs) (omega (arith, count-is vs o-is)))
+          ] in
+          simp t
 
   -- Within the limits the mask decides.
   module _ (room : p .count < maxBlocks) (narrow : numbers .count ≤ maxWidth) where
@@ -179,11 +184,11 @@ module _ (n : ℕ) (h : Counts) (p : Prefix) (q : Quantifier) (next : Bool) (lin
     by-mask None o-is = absurd (none-read o-is)
     by-mask (Some vs) o-is =
         let t : (leb maxBlocks (length bs) || ltb maxWidth (length vs)) ≡ false =
-              or-from (leb maxBlocks (length bs)) (ltb maxWidth (length vs)) (lt-leb maxBlocks (length bs) (omega (arith, blocks-count p))) (le-ltb maxWidth (length vs) (omega (arith, count-is vs o-is))) in
+        or-from (leb maxBlocks (length bs)) (ltb maxWidth (length vs)) (lt-leb maxBlocks (length bs) (omega (arith, blocks-count p))) (le-ltb maxWidth (length vs) (omega (arith, count-is vs o-is))) in
         simp (t, tried-is vs o-is)
         (elim (all (ranged (h .variables)) vs && distinct (boundIn bs ++ vs)) as (λ u.
-            cond (not u) (Err (fault BadVariable n)) (cond (repeats q bs || not (existential q || next)) (Err (fault BadAlternation n)) (Ok (record { quantifier = q; variables = vs })))
-            ≡ ruled (cond u (Some (maskOf (boundIn bs ++ vs))) None)) [ true ↦ ap (λ b. cond (repeats q bs || not (existential q || next)) (Err (fault BadAlternation n)) (Ok b)) (sym (stored vs o-is)) | false ↦ refl ])
+        cond (not u) (Err (fault BadVariable n)) (cond (repeats q bs || not (existential q || next)) (Err (fault BadAlternation n)) (Ok (record { quantifier = q; variables = vs })))
+        ≡ ruled (cond u (Some (maskOf (boundIn bs ++ vs))) None)) [ true ↦ ap (λ b. cond (repeats q bs || not (existential q || next)) (Err (fault BadAlternation n)) (Ok b)) (sym (stored vs o-is)) | false ↦ refl ])
 
     pub block-bad : None ≡ tried → placed (variablesOf line) ≡ Err (fault BadVariable n)
     block-bad e = by-mask (variablesOf line) refl ∙ ap ruled (sym e)

@@ -46,12 +46,12 @@ literal-made : (w : List ℕ) (l : Literal) → literalOf w ≡ Some l → (w �
 literal-made w l e =
     cond-cases (eqb (getD w 0 0) 45) _ _ _ e
     (λ m e. then-some _ _ l e (λ n d e. cond-cases (eqb n 0) _ _ _ e (λ _ e. absurd (none-some e)) (λ some e.
-      let is : _≡_ {A = Literal} (record { negative = true; variable = n }) l = cc in
-      (rw (← is) (minus-first w (eqb-true _ _ m) ∙ ap (λ ds. 45 ∷ ds) (numeral-made _ n d .0)), λ z. absurd (eqb-false n 0 some (ap (λ k. k .variable) is ∙ z))))))
+    let is : _≡_ {A = Literal} (record { negative = true; variable = n }) l = cc in
+    (rw (← is) (minus-first w (eqb-true _ _ m) ∙ ap (λ ds. 45 ∷ ds) (numeral-made _ n d .0)), λ z. absurd (eqb-false n 0 some (ap (λ k. k .variable) is ∙ z))))))
     (λ m e. then-some _ _ l e (λ n d e.
-      let is : _≡_ {A = Literal} (record { negative = false; variable = n }) l = cc in
-      let w-is = numeral-made _ n d .0 in
-      (rw (← is) w-is, λ z. w-is ∙ ap decimal (ap (λ k. k .variable) is ∙ z) ∙ decimal-zero)))
+    let is : _≡_ {A = Literal} (record { negative = false; variable = n }) l = cc in
+    let w-is = numeral-made _ n d .0 in
+    (rw (← is) w-is, λ z. w-is ∙ ap decimal (ap (λ k. k .variable) is ∙ z) ∙ decimal-zero)))
 
 pub literals-made : (ws : List (List ℕ)) (ls : List Literal) → literalsOf ws ≡ Some ls → ws ≡ map literalText ls ++ (codes "0" ∷ [])
 literals-made [] ls e = cc
@@ -60,7 +60,7 @@ literals-made (w ∷ ws) ls e =
     cond-cases (eqb (l .variable) 0) _ _ _ e
     (λ z e. let d = ended-made ws [] ls e in rw (d .0, ← d .1) (ap (λ x. x ∷ []) (m .1 (eqb-true _ _ z))))
     (λ n e. then-some (literalsOf ws) _ ls e (λ rest r e.
-      let is : _≡_ {A = List Literal} (l ∷ rest) ls = cc in rw (← is) (cc (m .0, literals-made ws rest r)))))
+    let is : _≡_ {A = List Literal} (l ∷ rest) ls = cc in rw (← is) (cc (m .0, literals-made ws rest r)))))
 
 -- What a literal's variable can be.
 abbrev pub Writable : Literal → Type 0

@@ -80,12 +80,12 @@ bound-push bs b = bound-append bs (b ∷ []) ∙ ap (λ vs. boundIn bs ++ vs) (a
 module _ (highest : ℕ) (bs : List Block) (b : Block) where
   pub sound-push : Sound highest bs → Follows highest bs b → Sound highest (bs ++ b ∷ [])
   sound-push s g = record {
-      few = rw (length-push bs b) (omega arith);
-      widths = all-append wide bs (b ∷ []) ∙ and-from _ _ (s .widths) (and-from _ _ (g .width) refl);
-      range = rw (bound-push bs b) (all-append (ranged highest) (boundIn bs) (b .variables) ∙ and-from _ _ (s .range) (g .range));
-      once = rw (bound-push bs b) (g .once);
-      alternates = alternating-push bs b (s .alternates) (g .turns)
-    }
+    few = rw (length-push bs b) (omega arith);
+    widths = all-append wide bs (b ∷ []) ∙ and-from _ _ (s .widths) (and-from _ _ (g .width) refl);
+    range = rw (bound-push bs b) (all-append (ranged highest) (boundIn bs) (b .variables) ∙ and-from _ _ (s .range) (g .range));
+    once = rw (bound-push bs b) (g .once);
+    alternates = alternating-push bs b (s .alternates) (g .turns);
+  }
 
   pub follows-in : (rest : List Block) → Sound highest (bs ++ b ∷ rest) → Follows highest bs b
   follows-in rest s =
@@ -96,5 +96,5 @@ module _ (highest : ℕ) (bs : List Block) (b : Block) where
         width = and-parts (wide b) _ (all-parts wide bs (b ∷ rest) (s .widths) .1) .0;
         range = all-parts (ranged highest) (b .variables) (boundIn rest) range .0;
         once = distinct-front (boundIn bs ++ b .variables) (boundIn rest) (ap distinct (append-assoc (boundIn bs) (b .variables) (boundIn rest) ∙ sym bound) ∙ s .once);
-        turns = alternating-turns bs rest b (s .alternates)
+        turns = alternating-turns bs rest b (s .alternates);
       }

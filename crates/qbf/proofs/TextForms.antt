@@ -38,7 +38,7 @@ made h bs cs = record { variables = h .variables; prefix = bs; matrix = cs }
 
 clauses-accepted : {P : Type 0} (n : ℕ) (h : Counts) (bs : List Block) (cs : List Clause) (lines : List (List ℕ)) (f : Qbf) → clauseLines n h bs cs lines ≡ Ok f
     → ((literals : List (List Literal)) → Pairwise ClauseLine literals lines → all (bindsAll bs) literals ≡ true
-      → length (cs ++ map clauseOf literals) ≡ h .clauses → made h bs (cs ++ map clauseOf literals) ≡ f → P) → P
+    → length (cs ++ map clauseOf literals) ≡ h .clauses → made h bs (cs ++ map clauseOf literals) ≡ f → P) → P
 clauses-accepted n h bs cs [] f e on =
     cond-cases (eqb (length cs) (h .clauses)) _ _ _ e
     (λ t e. on [] tt refl (rw (append-nil cs) (eqb-true _ _ t)) (rw (append-nil cs) (cc)))
@@ -61,7 +61,7 @@ module _ (h : Counts) (bs : List Block) (limit : h .variables ≤ maxVariables) 
       let next = append-assoc cs (clauseOf ls ∷ []) (map clauseOf literals) in
       let more : length cs ≡ h .clauses → ⊥ = λ e. omega (arith, simp length-append at count) in
       rw (ne-eqb (length cs) (h .clauses) more, clause-read h bs limit range n l ls (p .0) (q .0), ← next)
-        (clauses-read (n + 1) (cs ++ clauseOf ls ∷ []) literals lines (p .1) (q .1) (ap length next ∙ count))
+      (clauses-read (n + 1) (cs ++ clauseOf ls ∷ []) literals lines (p .1) (q .1) (ap length next ∙ count))
 
   clause-next : (literals : List (List Literal)) (lines : List (List ℕ)) → Pairwise ClauseLine literals lines → all (bindsAll bs) literals ≡ true → blockNext lines ≡ false
   clause-next [] [] p b = refl
@@ -91,7 +91,7 @@ blocks-end : {P : Type 0} (n : ℕ) (h : Counts) (bs : List Block) (lines : List
     → blockNext lines ≡ false → blockLines n h bs lines ≡ Ok f → Ends h bs lines f P → P
 blocks-end n h bs lines f s i o e on =
     on n [] [] lines refl tt (rw (append-nil bs) s) (rw (append-nil bs) (elim (or-cases _ _ i) [ inl t ↦ t | inr t ↦ absurd (both-ways _ o t) ]))
-      (rw (append-nil bs) (sym (blocks-over n h bs lines o) ∙ e))
+    (rw (append-nil bs) (sym (blocks-over n h bs lines o) ∙ e))
 
 prefix-or-not : (k : Kind) → ((q : Quantifier) × (k ≡ Prefix q)) ⊎ (isPrefix k ≡ false)
 prefix-or-not Comment = inr refl
@@ -106,12 +106,12 @@ blocks-accepted n h bs (l ∷ lines) f s i e on =
     elim (prefix-or-not (kindOf l)) [
       | inr o ↦ blocks-end n h bs (l ∷ lines) f s i o e on
       | inl t ↦
-        let k = t .1 in
-        onward-ok (readBlock n h bs (t .0) (blockNext lines) l) _ f (rw (k, blockLines) at e) (λ b r e.
-        let a = block-accepted n h bs (t .0) (blockNext lines) l b k r in
-        blocks-accepted (n + 1) h (bs ++ b ∷ []) lines f (sound-push _ bs b s (a .1)) (rw (innermost-push bs b) (a .2)) e (λ m more blocks clauses lined p s i e.
-        let next = append-assoc bs (b ∷ []) more in
-        on m (b ∷ more) (l ∷ blocks) clauses (ap (λ ls. l ∷ ls) lined) (a .0, p) (rw (← next) s) (rw (← next) i) (rw (← next) e)))
+          let k = t .1 in
+          onward-ok (readBlock n h bs (t .0) (blockNext lines) l) _ f (rw (k, blockLines) at e) (λ b r e.
+          let a = block-accepted n h bs (t .0) (blockNext lines) l b k r in
+          blocks-accepted (n + 1) h (bs ++ b ∷ []) lines f (sound-push _ bs b s (a .1)) (rw (innermost-push bs b) (a .2)) e (λ m more blocks clauses lined p s i e.
+          let next = append-assoc bs (b ∷ []) more in
+          on m (b ∷ more) (l ∷ blocks) clauses (ap (λ ls. l ∷ ls) lined) (a .0, p) (rw (← next) s) (rw (← next) i) (rw (← next) e)))
     ]
 
 last-or-next : (bs more : List Block) (b : Block) (blocks clauses : List (List ℕ)) → innermost (bs ++ b ∷ more) ≡ true → Pairwise BlockLine more blocks
@@ -178,7 +178,10 @@ accepted-form text f e =
     blocks-accepted m h [] rest f none refl e (λ m bs blocks clauses rest-lined prefixed sound inside e.
     clauses-accepted m h bs [] clauses f e (λ literals claused bound count is.
     rw (← is) (record {
-      comments = comments; header = header; blocks = blocks; clauses = clauses;
+      comments = comments;
+      header = header;
+      blocks = blocks;
+      clauses = clauses;
       lines = subst (Lines text) (lined ∙ ap (λ ls. comments ++ (header ∷ ls)) rest-lined) (lines-made text);
       commented = commented;
       headed = rw count (headed .0);
@@ -188,10 +191,16 @@ accepted-form text f e =
       bound = bound;
       meant = refl;
       formed = record {
-        few-variables = headed .1; few-blocks = sound .few; few-clauses = rw count (headed .2);
-        widths = sound .widths; range = sound .range; once = sound .once; alternates = sound .alternates; inside = inside;
-        closes = all-closed bs literals bound
-      }
+        few-variables = headed .1;
+        few-blocks = sound .few;
+        few-clauses = rw count (headed .2);
+        widths = sound .widths;
+        range = sound .range;
+        once = sound .once;
+        alternates = sound .alternates;
+        inside = inside;
+        closes = all-closed bs literals bound;
+      };
     }))))
 
 pub parse-formed : (text : List ℕ) (f : Qbf) → parse text ≡ Ok f → WellFormed f
@@ -204,6 +213,6 @@ form-accepted text f t =
     let sound : Sound (f .variables) (f .prefix) = record { few = w .few-blocks; widths = w .widths; range = w .range; once = w .once; alternates = w .alternates } in
     ap (topLines 1) (lines-unique (t .lines)) ∙ top-read 1 h (t .comments) (t .header) _ f (w .few-variables) (w .few-clauses) (t .commented) (t .headed) (λ m.
     blocks-read m h [] (f .prefix) (t .blocks) (t .clauses) f (w .few-variables) sound (w .inside) (t .prefixed)
-      (clause-next h (f .prefix) (w .few-variables) (w .range) (t .literals) (t .clauses) (t .claused) (t .bound)) (λ k.
+    (clause-next h (f .prefix) (w .few-variables) (w .range) (t .literals) (t .clauses) (t .claused) (t .bound)) (λ k.
     clauses-read h (f .prefix) (w .few-variables) (w .range) k [] (t .literals) (t .clauses) (t .claused) (t .bound) (ap length (t .meant))
-      ∙ ap (λ cs. Ok (made h (f .prefix) cs)) (t .meant)))
+    ∙ ap (λ cs. Ok (made h (f .prefix) cs)) (t .meant)))

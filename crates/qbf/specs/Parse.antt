@@ -104,21 +104,23 @@ clauseLines n h bs cs (l ∷ ls) =
 abbrev pub blockLines : ℕ → Counts → List Block → List (List ℕ) → Result Qbf Fault
 blockLines n h bs [] = clauseLines n h bs [] []
 blockLines n h bs (l ∷ ls) =
-    elim (kindOf l)
-    [ Prefix q ↦ onward (readBlock n h bs q (blockNext ls) l) (λ b. blockLines (n + 1) h (bs ++ b ∷ []) ls)
-    | Comment ↦ clauseLines n h bs [] (l ∷ ls)
-    | Problem ↦ clauseLines n h bs [] (l ∷ ls)
-    | Other ↦ clauseLines n h bs [] (l ∷ ls) ]
+    elim (kindOf l) [
+      | Prefix q ↦ onward (readBlock n h bs q (blockNext ls) l) (λ b. blockLines (n + 1) h (bs ++ b ∷ []) ls)
+      | Comment ↦ clauseLines n h bs [] (l ∷ ls)
+      | Problem ↦ clauseLines n h bs [] (l ∷ ls)
+      | Other ↦ clauseLines n h bs [] (l ∷ ls)
+    ]
 
 -- The lines from the n-th on, after comments.
 abbrev pub topLines : ℕ → List (List ℕ) → Result Qbf Fault
 topLines n [] = Err (fault FormulaForm n)
 topLines n (l ∷ ls) =
-    elim (kindOf l)
-    [ Comment ↦ topLines (n + 1) ls
-    | Problem ↦ onward (readHeader n l) (λ h. blockLines (n + 1) h [] ls)
-    | Prefix q ↦ Err (fault FormulaForm n)
-    | Other ↦ Err (fault FormulaForm n) ]
+    elim (kindOf l) [
+      | Comment ↦ topLines (n + 1) ls
+      | Problem ↦ onward (readHeader n l) (λ h. blockLines (n + 1) h [] ls)
+      | Prefix q ↦ Err (fault FormulaForm n)
+      | Other ↦ Err (fault FormulaForm n)
+    ]
 
 abbrev pub parse : List ℕ → Result Qbf Fault
 parse text = topLines 1 (linesOf text)

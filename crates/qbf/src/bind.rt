@@ -2,7 +2,6 @@ ghost use mathlib.Core.Path.{_≡_};
 ghost use Prim.Native.Nat.{ℕ, _≤_};
 ghost use Rattle.qbf.specs.Limits.{maxVariables};
 ghost use Rattle.qbf.specs.Bound.{bindAll};
-
 use crate::literal::mask;
 
 // The mask of the variables bound once these are too, or none where one is out of range or bound already.

@@ -2,7 +2,6 @@ ghost use mathlib.Core.Path.{_≡_};
 ghost use Prim.Native.Nat.{ℕ, _≤_};
 ghost use lib.ListN.{length};
 ghost use Rattle.qbf.specs.Limits.{maxWidth};
-
 use crate::limits::MAX_WIDTH;
 use crate::literal::Quantifier;
 

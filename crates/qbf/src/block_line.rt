@@ -13,7 +13,6 @@ ghost use Rattle.qbf.specs.Held.{blocksIn};
 ghost use Rattle.qbf.specs.Gathered.{none, widened};
 ghost use Rattle.qbf.specs.Bound.{Binds};
 ghost use Rattle.qbf.specs.Parse.{variablesOf, readBlock};
-
 use crate::bind::bind;
 use crate::block::Block;
 use crate::counts::Counts;
@@ -51,19 +50,52 @@ fn misplaced(prefix: &Prefix, quantifier: Quantifier, next: bool) -> bool
 }
 
 // Reads a block line, on line n, after the blocks of a prefix: the block, and the mask of the variables then bound.
-pub(crate) fn read_block(line: &[u8], n: usize, counts: Counts, prefix: &Prefix, quantifier: Quantifier, next: bool) -> Result<(Block, u64), Fault>
+pub(crate) fn read_block(
+    line: &[u8],
+    n: usize,
+    counts: Counts,
+    prefix: &Prefix,
+    quantifier: Quantifier,
+    next: bool,
+) -> Result<(Block, u64), Fault>
     requires { ⌜ counts .variables ≤ maxVariables ⌝ }
     ensures { λ r. ⌜ Cases r (λ p. (readBlock n counts (blocksIn (now (prefix .entry))) quantifier next (now (line .entry)) ≡ Ok (blockOf (p .0))) × (now (prefix .entry) .count < maxBlocks) × Binds (p .1) (boundIn (blocksIn (now (prefix .entry)) ++ (blockOf (p .0) ∷ [])))) (λ e. readBlock n counts (blocksIn (now (prefix .entry))) quantifier next (now (line .entry)) ≡ Err e) ⌝ }
 {
-    let numbers = numbers_of(line, Fault { cause: Cause::FormulaForm, line: n })?;
+    let numbers = numbers_of(
+        line,
+        Fault {
+            cause: Cause::FormulaForm,
+            line: n,
+        },
+    )?;
     if prefix.count == MAX_BLOCKS || numbers.count > MAX_WIDTH {
-        return Err(Fault { cause: Cause::OverLimit, line: n });
+        return Err(Fault {
+            cause: Cause::OverLimit,
+            line: n,
+        });
     }
-    let Some(bound) = bind(&numbers.first[0..numbers.count], counts.variables, prefix.bound) else {
-        return Err(Fault { cause: Cause::BadVariable, line: n });
+    let Some(bound) = bind(
+        &numbers.first[0..numbers.count],
+        counts.variables,
+        prefix.bound,
+    ) else {
+        return Err(Fault {
+            cause: Cause::BadVariable,
+            line: n,
+        });
     };
     if misplaced(prefix, quantifier, next) {
-        return Err(Fault { cause: Cause::BadAlternation, line: n });
+        return Err(Fault {
+            cause: Cause::BadAlternation,
+            line: n,
+        });
     }
-    Ok((Block { quantifier, width: numbers.count, variables: numbers.first }, bound))
+    Ok((
+        Block {
+            quantifier,
+            width: numbers.count,
+            variables: numbers.first,
+        },
+        bound,
+    ))
 }

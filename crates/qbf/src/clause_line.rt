@@ -5,7 +5,6 @@ ghost use Rattle.qbf.specs.Limits.{maxVariables};
 ghost use Rattle.qbf.specs.Held.{blocksIn};
 ghost use Rattle.qbf.specs.Gathered.{nothing, gathered};
 ghost use Rattle.qbf.specs.Parse.{clauseLiterals, readClause};
-
 use crate::counts::Counts;
 use crate::gather::Gathered;
 use crate::gather::gather;
@@ -24,17 +23,34 @@ fn literals_of(line: &[u8], at: Fault) -> Result<Gathered, Fault>
 }
 
 // Reads a clause line, on line n.
-pub(crate) fn read_clause(line: &[u8], n: usize, counts: Counts, prefix: &Prefix) -> Result<Clause, Fault>
+pub(crate) fn read_clause(
+    line: &[u8],
+    n: usize,
+    counts: Counts,
+    prefix: &Prefix,
+) -> Result<Clause, Fault>
     requires { ⌜ counts .variables ≤ maxVariables ⌝ }
     ensures { λ r. ⌜ r ≡ readClause n counts (blocksIn (now (prefix .entry))) (now (line .entry)) ⌝ }
 {
-    let literals = literals_of(line, Fault { cause: Cause::FormulaForm, line: n })?;
+    let literals = literals_of(
+        line,
+        Fault {
+            cause: Cause::FormulaForm,
+            line: n,
+        },
+    )?;
     if literals.highest > counts.variables {
-        return Err(Fault { cause: Cause::BadVariable, line: n });
+        return Err(Fault {
+            cause: Cause::BadVariable,
+            line: n,
+        });
     }
     let used = literals.clause.positive | literals.clause.negative;
     if used & prefix.bound != used {
-        return Err(Fault { cause: Cause::UnboundVariable, line: n });
+        return Err(Fault {
+            cause: Cause::UnboundVariable,
+            line: n,
+        });
     }
     Ok(literals.clause)
 }

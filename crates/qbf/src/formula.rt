@@ -35,6 +35,10 @@ impl Formula {
         ensures prefix { λ r. ⌜ blocksOf (r .prefix .count) (r .prefix .blocks) ≡ blocksOf (prefix .count) (prefix .blocks) ⌝ }
         ensures matrix { λ r. ⌜ take (r .matrix .count) (r .matrix .clauses) ≡ take (matrix .count) (matrix .clauses) ⌝ }
     {
-        Formula { variables, prefix, matrix }
+        Formula {
+            variables,
+            prefix,
+            matrix,
+        }
     }
 }

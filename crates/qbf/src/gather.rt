@@ -1,10 +1,9 @@
 ghost use mathlib.Core.Path.{_≡_};
 ghost use Prim.Native.Nat.{ℕ, _≤_};
 ghost use Rattle.std.specs.Options.{okOr, mapped};
-ghost use Rattle.text.specs.Rows.{words};
+ghost use Rattle.text.specs.Left.{fieldsLeft};
 ghost use Rattle.qbf.specs.Literals.{literalsOf, numbersOf};
 ghost use Rattle.qbf.specs.Gathered.{none, widened, nothing, further, gathered};
-
 use crate::limits::MAX_VARIABLES;
 use crate::literal::Clause;
 use crate::literal::Literal;
@@ -30,13 +29,22 @@ impl Gathered {
         let Clause { positive, negative } = self.clause;
         let highest = self.highest.max(literal.variable);
         if literal.variable > MAX_VARIABLES {
-            return Gathered { clause: self.clause, highest };
+            return Gathered {
+                clause: self.clause,
+                highest,
+            };
         }
         let bit = mask(literal.variable);
         let clause = if literal.negative {
-            Clause { positive, negative: bit | negative }
+            Clause {
+                positive,
+                negative: bit | negative,
+            }
         } else {
-            Clause { positive: bit | positive, negative }
+            Clause {
+                positive: bit | positive,
+                negative,
+            }
         };
         Gathered { clause, highest }
     }
@@ -44,9 +52,15 @@ impl Gathered {
 
 // Takes all literals that are left of a clause line.
 pub(crate) fn gather(fields: &mut Fields, at: Fault) -> Result<Gathered, Fault>
-    ensures { λ r. ⌜ r ≡ okOr (mapped (gathered nothing) (literalsOf (words (now (now (fields .entry) .rest))))) at ⌝ }
+    ensures { λ r. ⌜ r ≡ okOr (mapped (gathered nothing) (literalsOf (fieldsLeft (now (fields .entry))))) at ⌝ }
 {
-    let mut all = Gathered { clause: Clause { positive: 0, negative: 0 }, highest: 0 };
+    let mut all = Gathered {
+        clause: Clause {
+            positive: 0,
+            negative: 0,
+        },
+        highest: 0,
+    };
     while let Some(literal) = next_literal(fields, at)? {
         all = all.with(literal);
     }
@@ -55,7 +69,7 @@ pub(crate) fn gather(fields: &mut Fields, at: Fault) -> Result<Gathered, Fault>
 
 // Takes all numbers that are left of a block line.
 pub(crate) fn gather_numbers(fields: &mut Fields, at: Fault) -> Result<Numbers, Fault>
-    ensures { λ r. ⌜ r ≡ okOr (mapped (widened none) (numbersOf (words (now (now (fields .entry) .rest))))) at ⌝ }
+    ensures { λ r. ⌜ r ≡ okOr (mapped (widened none) (numbersOf (fieldsLeft (now (fields .entry))))) at ⌝ }
 {
     let mut numbers = Numbers::new();
     while let Some(literal) = next_literal(fields, at)? {

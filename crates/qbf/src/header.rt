@@ -1,14 +1,12 @@
 ghost use mathlib.Core.Path.{_≡_};
 ghost use Prim.Native.Nat.{ℕ, _≤_};
-ghost use lib.ListN.{length};
 ghost use Rattle.std.specs.Options.{okOr};
 ghost use Rattle.std.specs.Results.{Cases};
 ghost use Rattle.std.specs.Vec.{made};
 ghost use Rattle.std.specs.declared.option.Option.the-variants.{Some, None};
-ghost use Rattle.text.specs.Rows.{words};
+ghost use Rattle.text.specs.Left.{fieldsLeft};
 ghost use Rattle.qbf.specs.Limits.{maxVariables, maxClauses};
 ghost use Rattle.qbf.specs.Parse.{takeLetter, takeCnf, headerOf, readHeader};
-
 use crate::counts::Counts;
 use crate::limits::MAX_CLAUSES;
 use crate::limits::MAX_VARIABLES;
@@ -18,7 +16,7 @@ use text::fields::Fields;
 
 // Takes the first field, which is one letter.
 pub(crate) fn take_letter(fields: &mut Fields, at: Fault) -> Result<(), Fault>
-    ensures { λ r. ⌜ Cases r (λ _. takeLetter (words (now (now (fields .entry) .rest))) ≡ Some (words (now (now (fields .exit) .rest)))) (λ e. (takeLetter (words (now (now (fields .entry) .rest))) ≡ None) × (e ≡ at)) ⌝ }
+    ensures { λ r. ⌜ Cases r (λ _. takeLetter (fieldsLeft (now (fields .entry))) ≡ Some (fieldsLeft (now (fields .exit)))) (λ e. (takeLetter (fieldsLeft (now (fields .entry))) ≡ None) × (e ≡ at)) ⌝ }
 {
     if fields.field(at)?.len() != 1 {
         return Err(at);
@@ -28,7 +26,7 @@ pub(crate) fn take_letter(fields: &mut Fields, at: Fault) -> Result<(), Fault>
 
 // Takes the word `cnf`.
 fn take_cnf(fields: &mut Fields, at: Fault) -> Result<(), Fault>
-    ensures { λ r. ⌜ Cases r (λ _. takeCnf (words (now (now (fields .entry) .rest))) ≡ Some (words (now (now (fields .exit) .rest)))) (λ e. (takeCnf (words (now (now (fields .entry) .rest))) ≡ None) × (e ≡ at)) ⌝ }
+    ensures { λ r. ⌜ Cases r (λ _. takeCnf (fieldsLeft (now (fields .entry))) ≡ Some (fieldsLeft (now (fields .exit)))) (λ e. (takeCnf (fieldsLeft (now (fields .entry))) ≡ None) × (e ≡ at)) ⌝ }
 {
     let word = fields.field(at)?;
     if word.len() != 3 || word[0] != b'c' || word[1] != b'n' || word[2] != b'f' {
@@ -55,9 +53,18 @@ pub(crate) fn read_header(line: &[u8], n: usize) -> Result<Counts, Fault>
     ensures value { λ r. ⌜ r ≡ readHeader n (now (line .entry)) ⌝ }
     ensures few { λ r. ⌜ made r (λ h. (h .variables ≤ maxVariables) × (h .clauses ≤ maxClauses)) ⌝ }
 {
-    let counts = counts_of(line, Fault { cause: Cause::FormulaForm, line: n })?;
+    let counts = counts_of(
+        line,
+        Fault {
+            cause: Cause::FormulaForm,
+            line: n,
+        },
+    )?;
     if counts.variables > MAX_VARIABLES || counts.clauses as usize > MAX_CLAUSES {
-        return Err(Fault { cause: Cause::OverLimit, line: n });
+        return Err(Fault {
+            cause: Cause::OverLimit,
+            line: n,
+        });
     }
     Ok(counts)
 }

@@ -1,18 +1,18 @@
 // Quantified Boolean formulas: reading their text, and what they mean.
 
-pub mod limits;
-pub mod literal;
-mod counts;
-mod block;
-mod numbers;
-mod kind;
-mod literals;
-mod header;
 mod bind;
-mod gather;
-mod prefix;
-mod matrix;
+mod block;
 mod block_line;
 mod clause_line;
+mod counts;
 pub mod formula;
+mod gather;
+mod header;
+mod kind;
+pub mod limits;
+pub mod literal;
+mod literals;
+mod matrix;
+mod numbers;
+mod prefix;
 pub mod read;

@@ -1,11 +1,9 @@
 ghost use mathlib.Core.Path.{_≡_};
 ghost use Prim.Native.Nat.{ℕ, _+_, _≤_, _<_};
-ghost use lib.ListN.{length};
 ghost use Rattle.std.specs.Options.{okOr};
 ghost use Rattle.std.specs.Vec.{made};
-ghost use Rattle.text.specs.Rows.{words};
+ghost use Rattle.text.specs.Left.{fieldsLeft, bytesLeft};
 ghost use Rattle.qbf.specs.Literals.{literalOf, Yields};
-
 use crate::literal::Literal;
 use faults::fault::Fault;
 use text::fields::Fields;
@@ -19,19 +17,25 @@ fn literal(field: &[u8], at: Fault) -> Result<Literal, Fault>
         return Err(at);
     };
     if *first != b'-' {
-        return Ok(Literal { negative: false, variable: number(field, at)? });
+        return Ok(Literal {
+            negative: false,
+            variable: number(field, at)?,
+        });
     }
     let variable = number(digits, at)?;
     if variable == 0 {
         return Err(at);
     }
-    Ok(Literal { negative: true, variable })
+    Ok(Literal {
+        negative: true,
+        variable,
+    })
 }
 
 // The next literal of a line that 0 ends, or none once that has come.
 pub(crate) fn next_literal(fields: &mut Fields, at: Fault) -> Result<Option<Literal>, Fault>
-    ensures yields { λ r. ⌜ Yields at (words (now (now (fields .entry) .rest))) (words (now (now (fields .exit) .rest))) r ⌝ }
-    ensures shorter { λ r. ⌜ made r (λ _. length (now (now (fields .exit) .rest)) < length (now (now (fields .entry) .rest))) ⌝ }
+    ensures yields { λ r. ⌜ Yields at (fieldsLeft (now (fields .entry))) (fieldsLeft (now (fields .exit))) r ⌝ }
+    ensures shorter { λ r. ⌜ made r (λ _. bytesLeft (now (fields .exit)) < bytesLeft (now (fields .entry))) ⌝ }
 {
     let next = literal(fields.field(at)?, at)?;
     if next.variable == 0 {

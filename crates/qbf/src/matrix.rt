@@ -3,7 +3,6 @@ ghost use mathlib.Core.List.{_++_, _∷_, []};
 ghost use Prim.Native.Nat.{ℕ, _≤_, _<_};
 ghost use lib.ListN.{length, take};
 ghost use Rattle.qbf.specs.Limits.{maxClauses};
-
 use crate::limits::MAX_CLAUSES;
 use crate::literal::Clause;
 
@@ -20,7 +19,13 @@ impl Matrix {
     pub(crate) fn new() -> Matrix
         ensures { λ r. ⌜ take (r .count) (r .clauses) ≡ [] ⌝ }
     {
-        Matrix { count: 0, clauses: [Clause { positive: 0, negative: 0 }; MAX_CLAUSES] }
+        Matrix {
+            count: 0,
+            clauses: [Clause {
+                positive: 0,
+                negative: 0,
+            }; MAX_CLAUSES],
+        }
     }
 
     pub(crate) fn len(&self) -> usize

@@ -1,7 +1,6 @@
 ghost use mathlib.Core.Path.{_≡_};
 ghost use Prim.Native.Nat.{ℕ, _<_, _^_};
 ghost use Rattle.qbf.specs.Gathered.{none, wider};
-
 use crate::limits::MAX_WIDTH;
 
 // The numbers of a block line: how many, and the first twelve.
@@ -15,7 +14,10 @@ impl Numbers {
     pub(crate) fn new() -> Numbers
         ensures { λ r. ⌜ r ≡ none ⌝ }
     {
-        Numbers { count: 0, first: [0; MAX_WIDTH] }
+        Numbers {
+            count: 0,
+            first: [0; MAX_WIDTH],
+        }
     }
 
     // One number more, which is counted even where no place is left for it.

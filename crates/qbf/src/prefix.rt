@@ -7,7 +7,6 @@ ghost use Rattle.qbf.specs.Syntax.{boundIn};
 ghost use Rattle.qbf.specs.Bound.{Binds};
 ghost use Rattle.qbf.specs.Stored.{blockOf, blocksOf};
 ghost use Rattle.qbf.specs.WellFormed.{repeats};
-
 use crate::block::Block;
 use crate::limits::MAX_BLOCKS;
 use crate::limits::MAX_WIDTH;
@@ -28,8 +27,16 @@ impl Prefix {
     pub(crate) fn new() -> Prefix
         ensures { λ r. ⌜ blocksOf (r .count) (r .blocks) ≡ [] ⌝ }
     {
-        let none = Block { quantifier: Quantifier::Existential, width: 0, variables: [0; MAX_WIDTH] };
-        Prefix { count: 0, blocks: [none; MAX_BLOCKS], bound: 0 }
+        let none = Block {
+            quantifier: Quantifier::Existential,
+            width: 0,
+            variables: [0; MAX_WIDTH],
+        };
+        Prefix {
+            count: 0,
+            blocks: [none; MAX_BLOCKS],
+            bound: 0,
+        }
     }
 
     // One block more, within the limit, and the mask of all variables then bound.

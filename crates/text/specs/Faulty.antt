@@ -26,10 +26,11 @@ lineAt k (l ∷ ls) = cond (eqb k 1) (Some l) (lineAt (k - 1) ls)
 -- supported. The other faults stand in no line.
 abbrev pub faultyLine : Fault → List ℕ → List ℕ → Option (List ℕ)
 faultyLine e formula certificate =
-    elim (layerOf (e .cause))
-    [ Formula ↦ lineAt (e .line) (linesOf formula)
-    | Certificate ↦ lineAt (e .line) (linesOf certificate)
-    | Check ↦ cond (eqb (numberOf (e .cause)) 21) (lineAt (e .line) (linesOf certificate)) None
-    | Session ↦ None
-    | Play ↦ None
-    | Program ↦ None ]
+    elim (layerOf (e .cause)) [
+      | Formula ↦ lineAt (e .line) (linesOf formula)
+      | Certificate ↦ lineAt (e .line) (linesOf certificate)
+      | Check ↦ cond (eqb (numberOf (e .cause)) 21) (lineAt (e .line) (linesOf certificate)) None
+      | Session ↦ None
+      | Play ↦ None
+      | Program ↦ None
+    ]

@@ -3,3 +3,4 @@ pub mod Numeral
 pub mod Taken
 pub mod Faulty
 pub mod Layout
+pub mod Left

@@ -10,6 +10,11 @@ abbrev pub andThen : {A B : Type 0} → Option A → (A → Option B) → Option
 andThen None f = None
 andThen (Some a) f = f a
 
+-- The fields after the first.
+abbrev pub others : List (List ℕ) → List (List ℕ)
+others [] = []
+others (w ∷ ws) = ws
+
 -- The first field, and the others.
 abbrev pub takeField : List (List ℕ) → Option (List ℕ × List (List ℕ))
 takeField [] = None

@@ -1,6 +1,5 @@
 ghost use Rattle.text.specs.Faulty.{Hands, lineAt, faultyLine};
 ghost use Rattle.text.specs.Rows.{linesOf};
-
 use crate::lines::Lines;
 use faults::fault::Fault;
 use faults::layer::Layer;

@@ -5,7 +5,6 @@ ghost use lib.ListN.{length};
 ghost use denote.Ref.{now};
 ghost use Rattle.std.specs.Options.{Cases as BySome};
 ghost use Rattle.text.specs.Rows.{linesOf};
-
 use crate::cut::cut;
 
 // A text of which some lines have been taken, and how many.
@@ -21,7 +20,10 @@ impl<'a> Lines<'a> {
         ensures rest { λ r. ⌜ now (r .rest) ≡ now (text .entry) ⌝ }
         ensures line { λ r. ⌜ r .line ≡ 0 ⌝ }
     {
-        Lines { rest: text, line: 0 }
+        Lines {
+            rest: text,
+            line: 0,
+        }
     }
 
     // The number of the line taken last, from 1, or 0 before the first.

@@ -1,7 +1,6 @@
 ghost use mathlib.Core.Path.{_≡_};
 ghost use Rattle.std.specs.Options.{okOr};
 ghost use Rattle.text.specs.Numeral.{numeral};
-
 use faults::fault::Fault;
 
 // The number that a field writes: one to nine digits, with no zero before others.

@@ -7,7 +7,6 @@ ghost use Rattle.text.specs.Taken.{andThen};
 ghost use Rattle.qbf.specs.Places.{numbered};
 ghost use Rattle.qbf.specs.Stored.{blockOf};
 ghost use Rattle.qbf.specs.Held.{qbfOf};
-
 use crate::block::Block;
 use crate::formula::Formula;
 use crate::literal::Clause;

@@ -7,8 +7,9 @@ use Rattle.qbf.proofs.bind.bind.Needs.{then-v-eq0·by·then-v-eq0, then-v-eq0�
 pub returns-then-v-eq0 : need.returns-then-v-eq0
 returns-then-v-eq0 c =
     elim (c .then-v-eq0 .came) [
-      then-v-eq0·by·then-v-eq0 w ↦ search (needs, bind-outside, inl)
-    | then-v-eq0·by·else-v-eq0·then-v-highest w ↦ search (needs, bind-outside, inr) ]
+      | then-v-eq0·by·then-v-eq0 w ↦ search (needs, bind-outside, inl)
+      | then-v-eq0·by·else-v-eq0·then-v-highest w ↦ search (needs, bind-outside, inr)
+    ]
 
 pub returns-then-all-bit-ne0 : need.returns-then-all-bit-ne0
 returns-then-all-bit-ne0 c = search (needs, bind-again)

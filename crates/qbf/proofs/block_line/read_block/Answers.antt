@@ -26,11 +26,12 @@ returns-then-misplaced c =
     (c .in-Some .bound) (simp sub-zero at (sym (c .in-Some .is) ∙ c .bind .ensures)) (sym (c .misplaced .ensures) ∙ c .if-misplaced .taken)
 
 pub returns : need.returns
-returns c =
-    (block-placed (c .args .n) (c .args .counts) (now (c .args .prefix)) (c .args .quantifier) (c .args .next) (now (c .args .line))
-    (c .in-Continue-numbers .numbers) _ (c .in-Continue-numbers .ensures tt) (search needs) (search needs)
-    (c .in-Some .bound) (simp sub-zero at (sym (c .in-Some .is) ∙ c .bind .ensures)) (sym (c .misplaced .ensures) ∙ c .if-misplaced .left),
-    search needs,
-    block-binds (c .args .n) (c .args .counts) (now (c .args .prefix)) (c .args .quantifier) (c .args .next) (now (c .args .line))
-    (c .in-Continue-numbers .numbers) _ (c .in-Continue-numbers .ensures tt) (search needs) (search needs)
-    (c .in-Some .bound) (simp sub-zero at (sym (c .in-Some .is) ∙ c .bind .ensures)))
+returns c = (
+  block-placed (c .args .n) (c .args .counts) (now (c .args .prefix)) (c .args .quantifier) (c .args .next) (now (c .args .line))
+      (c .in-Continue-numbers .numbers) _ (c .in-Continue-numbers .ensures tt) (search needs) (search needs)
+      (c .in-Some .bound) (simp sub-zero at (sym (c .in-Some .is) ∙ c .bind .ensures)) (sym (c .misplaced .ensures) ∙ c .if-misplaced .left),
+  search needs,
+  block-binds (c .args .n) (c .args .counts) (now (c .args .prefix)) (c .args .quantifier) (c .args .next) (now (c .args .line))
+      (c .in-Continue-numbers .numbers) _ (c .in-Continue-numbers .ensures tt) (search needs) (search needs)
+      (c .in-Some .bound) (simp sub-zero at (sym (c .in-Some .is) ∙ c .bind .ensures)),
+)

@@ -10,4 +10,6 @@ returns c =
       value = c .read-lines .ensures;
       exact = record {
         accepted = λ f e. accepted-form text f (sym (c .read-lines .ensures) ∙ e);
-        complete = λ f t. c .read-lines .ensures ∙ form-accepted text f t } }
+        complete = λ f t. c .read-lines .ensures ∙ form-accepted text f t;
+      };
+    }

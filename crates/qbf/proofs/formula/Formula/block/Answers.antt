@@ -14,7 +14,7 @@ pub returns-then-level-eq0 : need.returns-then-level-eq0
 returns-then-level-eq0 c =
     let p = now (c .args .self) .prefix in
     sym (numbered-map blockOf (take (p .count) (p .blocks)) (c .args .level)
-      ∙ ap (mapped blockOf) (numbered-behind (p .blocks) (p .count) (c .args .level) (elim (c .then-level-eq0 .either) [ inl e ↦ inl e | inr q ↦ inr (q .1) ])))
+    ∙ ap (mapped blockOf) (numbered-behind (p .blocks) (p .count) (c .args .level) (elim (c .then-level-eq0 .either) [ inl e ↦ inl e | inr q ↦ inr (q .1) ])))
 
 pub returns : need.returns
 returns c =
