@@ -13,6 +13,12 @@ pub struct Fault {
 }
 
 impl Fault {
+    pub fn new(cause: Cause, line: usize) -> Fault
+        ensures { λ r. ⌜ r ≡ record { cause = cause; line = line } ⌝ }
+    {
+        Fault { cause, line }
+    }
+
     pub fn layer(self) -> Layer
         ensures { λ r. ⌜ r ≡ layerOf (self .cause) ⌝ }
     {

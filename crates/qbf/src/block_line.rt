@@ -61,34 +61,19 @@ pub(crate) fn read_block(
     requires { ⌜ counts .variables ≤ maxVariables ⌝ }
     ensures { λ r. ⌜ Cases r (λ p. (readBlock n counts (blocksIn (now (prefix .entry))) quantifier next (now (line .entry)) ≡ Ok (blockOf (p .0))) × (now (prefix .entry) .count < maxBlocks) × Binds (p .1) (boundIn (blocksIn (now (prefix .entry)) ++ (blockOf (p .0) ∷ [])))) (λ e. readBlock n counts (blocksIn (now (prefix .entry))) quantifier next (now (line .entry)) ≡ Err e) ⌝ }
 {
-    let numbers = numbers_of(
-        line,
-        Fault {
-            cause: Cause::FormulaForm,
-            line: n,
-        },
-    )?;
+    let numbers = numbers_of(line, Fault::new(Cause::FormulaForm, n))?;
     if prefix.count == MAX_BLOCKS || numbers.count > MAX_WIDTH {
-        return Err(Fault {
-            cause: Cause::OverLimit,
-            line: n,
-        });
+        return Err(Fault::new(Cause::OverLimit, n));
     }
     let Some(bound) = bind(
         &numbers.first[0..numbers.count],
         counts.variables,
         prefix.bound,
     ) else {
-        return Err(Fault {
-            cause: Cause::BadVariable,
-            line: n,
-        });
+        return Err(Fault::new(Cause::BadVariable, n));
     };
     if misplaced(prefix, quantifier, next) {
-        return Err(Fault {
-            cause: Cause::BadAlternation,
-            line: n,
-        });
+        return Err(Fault::new(Cause::BadAlternation, n));
     }
     Ok((
         Block {

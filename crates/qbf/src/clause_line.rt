@@ -32,25 +32,13 @@ pub(crate) fn read_clause(
     requires { ⌜ counts .variables ≤ maxVariables ⌝ }
     ensures { λ r. ⌜ r ≡ readClause n counts (blocksIn (now (prefix .entry))) (now (line .entry)) ⌝ }
 {
-    let literals = literals_of(
-        line,
-        Fault {
-            cause: Cause::FormulaForm,
-            line: n,
-        },
-    )?;
+    let literals = literals_of(line, Fault::new(Cause::FormulaForm, n))?;
     if literals.highest > counts.variables {
-        return Err(Fault {
-            cause: Cause::BadVariable,
-            line: n,
-        });
+        return Err(Fault::new(Cause::BadVariable, n));
     }
     let used = literals.clause.positive | literals.clause.negative;
     if used & prefix.bound != used {
-        return Err(Fault {
-            cause: Cause::UnboundVariable,
-            line: n,
-        });
+        return Err(Fault::new(Cause::UnboundVariable, n));
     }
     Ok(literals.clause)
 }

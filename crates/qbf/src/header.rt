@@ -53,18 +53,9 @@ pub(crate) fn read_header(line: &[u8], n: usize) -> Result<Counts, Fault>
     ensures value { λ r. ⌜ r ≡ readHeader n (now (line .entry)) ⌝ }
     ensures few { λ r. ⌜ made r (λ h. (h .variables ≤ maxVariables) × (h .clauses ≤ maxClauses)) ⌝ }
 {
-    let counts = counts_of(
-        line,
-        Fault {
-            cause: Cause::FormulaForm,
-            line: n,
-        },
-    )?;
+    let counts = counts_of(line, Fault::new(Cause::FormulaForm, n))?;
     if counts.variables > MAX_VARIABLES || counts.clauses as usize > MAX_CLAUSES {
-        return Err(Fault {
-            cause: Cause::OverLimit,
-            line: n,
-        });
+        return Err(Fault::new(Cause::OverLimit, n));
     }
     Ok(counts)
 }

@@ -37,16 +37,10 @@ fn read_top(lines: &mut Lines) -> Result<Counts, Fault>
         match kind_of(line) {
             Kind::Comment => {}
             Kind::Problem => return read_header(line, lines.line()),
-            _ => return Err(Fault {
-                cause: Cause::FormulaForm,
-                line: lines.line(),
-            }),
+            _ => return Err(Fault::new(Cause::FormulaForm, lines.line())),
         }
     }
-    Err(Fault {
-        cause: Cause::FormulaForm,
-        line: lines.line() + 1,
-    })
+    Err(Fault::new(Cause::FormulaForm, lines.line() + 1))
 }
 
 // Whether the next line is a block line.
@@ -102,18 +96,12 @@ fn read_matrix(lines: &mut Lines, counts: Counts, prefix: &Prefix) -> Result<Mat
     let mut matrix = Matrix::new();
     while let Some(line) = lines.next() {
         if matrix.len() == counts.clauses as usize {
-            return Err(Fault {
-                cause: Cause::ClauseCount,
-                line: lines.line(),
-            });
+            return Err(Fault::new(Cause::ClauseCount, lines.line()));
         }
         matrix.push(read_clause(line, lines.line(), counts, prefix)?);
     }
     if matrix.len() < counts.clauses as usize {
-        return Err(Fault {
-            cause: Cause::ClauseCount,
-            line: lines.line() + 1,
-        });
+        return Err(Fault::new(Cause::ClauseCount, lines.line() + 1));
     }
     Ok(matrix)
 }
