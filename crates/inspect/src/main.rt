@@ -1,11 +1,8 @@
 // Reads a formula on standard input and prints its shape, or why it is refused.
 
-mod refusal;
-mod shape;
-
-use faults::fault::Fault;
-use qbf::formula::Formula;
 use qbf::read::read;
+use report::refusal::print_refusal;
+use report::shape::print_shape;
 use std::env;
 use std::error::AnyError;
 use std::io::Read;
@@ -23,8 +20,8 @@ fn run(rt: &LibcRuntime) -> Result<(), AnyError> {
     let mut text = Vec::new(rt.alloc());
     rt.stdin().read_to_end(&mut text)?;
     match read(text.as_slice()) {
-        Ok(formula) => shape::print(rt, &formula),
-        Err(fault) => refusal::print(rt, fault, text.as_slice()),
+        Ok(formula) => print_shape(rt, &formula),
+        Err(fault) => print_refusal(rt, fault, text.as_slice()),
     }
 }
 

@@ -18,7 +18,7 @@ fn print_line(rt: &LibcRuntime, line: &[u8]) -> Result<(), AnyError> {
 }
 
 // The line `layer number line` with its values, and for people the cause and the line at fault.
-pub fn print(rt: &LibcRuntime, fault: Fault, formula: &[u8]) -> Result<(), AnyError> {
+pub fn print_refusal(rt: &LibcRuntime, fault: Fault, formula: &[u8]) -> Result<(), AnyError> {
     let layer = fault.layer().name();
     let number = fault.number();
     let line = fault.line;

@@ -18,7 +18,7 @@ fn print_block(rt: &LibcRuntime, formula: &Formula, level: usize) -> Result<(), 
 }
 
 // Counts, and a line for each block from the outermost.
-pub fn print(rt: &LibcRuntime, formula: &Formula) -> Result<(), AnyError> {
+pub fn print_shape(rt: &LibcRuntime, formula: &Formula) -> Result<(), AnyError> {
     let variables = formula.variables();
     let clauses = formula.clauses();
     let blocks = formula.blocks();
