@@ -59,7 +59,8 @@ fn run(rt: &LibcRuntime) -> Result<(), AnyError> {
         let next = next_text(all, end);
         let title = all.get(at..end).unwrap_or(&[]);
         let cut = if title.last() == Some(&b'\\') { 1 } else { 0 };
-        let text = all.get(end.saturating_add(1)..next.saturating_sub(cut)).unwrap_or(&[]);
+        let text = all.get(end.saturating_add(1)..next.saturating_sub(cut))
+            .unwrap_or(&[]);
         show(rt, title, text)?;
         at = next;
     }

@@ -90,14 +90,14 @@ module _ (highest all : ℕ) (xs : List ℕ) (i : ℕ) (x : Option ℕ) (same : 
   bind-outside h (inr l) =
       let t : ranged highest (getD xs i 0) ≡ false = and-right (leb 1 (getD xs i 0)) (leb (getD xs i 0) highest) (lt-leb (getD xs i 0) highest l) in simp t at (here h)
 
-  pub bind-again : i < length xs → (b : ℕ) → b ≡ 2 ^ (getD xs i 0 - 1) → (bitAnd all b ≡ 0 → ⊥) → None ≡ x
+  pub bind-again : i < length xs → (b : ℕ) → b ≡ 2 ^ (getD xs i 0 - 1) → eqb (bitAnd all b) 0 ≡ false → None ≡ x
   bind-again h b e n =
-      let t : eqb (bitAnd all (2 ^ (getD xs i 0 - 1))) 0 ≡ false = ne-eqb _ 0 (λ z. n (ap (bitAnd all) e ∙ z)) in
+      let t : eqb (bitAnd all (2 ^ (getD xs i 0 - 1))) 0 ≡ false = ap (λ c. eqb (bitAnd all c) 0) (sym e) ∙ n in
       let u : (ranged highest (getD xs i 0) && eqb (bitAnd all (2 ^ (getD xs i 0 - 1))) 0) ≡ false = and-right (ranged highest (getD xs i 0)) _ t in
       simp u at (here h)
 
-  pub bind-more : i < length xs → 1 ≤ getD xs i 0 → getD xs i 0 ≤ highest → (b : ℕ) → b ≡ 2 ^ (getD xs i 0 - 1) → bitAnd all b ≡ 0 → bindAll highest (bitOr all b) (drop (i + 1) xs) ≡ x
+  pub bind-more : i < length xs → 1 ≤ getD xs i 0 → getD xs i 0 ≤ highest → (b : ℕ) → b ≡ 2 ^ (getD xs i 0 - 1) → eqb (bitAnd all b) 0 ≡ true → bindAll highest (bitOr all b) (drop (i + 1) xs) ≡ x
   bind-more h l m b e z =
       let t : ranged highest (getD xs i 0) ≡ true = and-from _ _ (le-leb 1 (getD xs i 0) l) (le-leb (getD xs i 0) highest m) in
-      let u : eqb (bitAnd all (2 ^ (getD xs i 0 - 1))) 0 ≡ true = eq-eqb _ 0 (ap (bitAnd all) (sym e) ∙ z) in
+      let u : eqb (bitAnd all (2 ^ (getD xs i 0 - 1))) 0 ≡ true = ap (λ c. eqb (bitAnd all c) 0) (sym e) ∙ z in
       ap (λ c. bindAll highest (bitOr all c) (drop (i + 1) xs)) e ∙ (simp (t, u) at (here h))

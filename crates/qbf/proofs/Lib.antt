@@ -1,4 +1,4 @@
-mod Tables
+mod Fronts
 mod LiteralSteps
 pub mod Bits
 pub mod Masks

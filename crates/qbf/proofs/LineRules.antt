@@ -15,7 +15,7 @@ use Rattle.std.specs.declared.option.Option.the-variants.{Some, None}
 use Rattle.std.specs.declared.result.Result.{Result}
 use Rattle.std.specs.declared.result.Result.the-variants.{Ok, Err}
 use Rattle.std.proofs.shelf.Lists.{joined-more}
-use Rattle.std.proofs.shelf.Tests.{cases-bool, leb-true, le-leb, lt-leb, lt-ltb, le-ltb, and-parts, and-from, eqb-true, eq-eqb, ne-eqb, or-left, or-right, or-from, cases-eq}
+use Rattle.std.proofs.shelf.Tests.{cases-bool, leb-true, leb-false, le-leb, lt-leb, ltb-false, and-parts, and-from, eqb-true, eq-eqb, ne-eqb, or-parts, cases-eq}
 use Rattle.faults.specs.declared.cause.Cause.the-variants.{OverLimit, BadVariable, BadAlternation, UnboundVariable}
 use Rattle.faults.specs.declared.fault.Fault.{Fault}
 use Rattle.text.specs.Rows.{fieldsOf}
@@ -35,7 +35,7 @@ use Rattle.qbf.specs.Literals.{literalOf, literalsOf, prepend}
 use Rattle.qbf.specs.Gathered.{none, widened, nothing, gathered}
 use Rattle.qbf.specs.Bound.{bindAll, Binds}
 use Rattle.qbf.specs.Parse.{fault, variablesOf, clauseLiterals, placeBlock, bindClause}
-use Rattle.qbf.proofs.Tables.{blocks-count}
+use Rattle.qbf.proofs.Fronts.{blocks-count}
 use Rattle.qbf.proofs.Masks.{closed-elem}
 use Rattle.qbf.proofs.Gathering.{count-widened, numbers-widened, highest-gathered, clause-gathered}
 use Rattle.qbf.proofs.Binding.{all-append, bound-by-rule, bindRule}
@@ -117,11 +117,11 @@ module _ (n : ℕ) (h : Counts) (p : Prefix) (line : List ℕ) (g : Gathered) (a
       let c-is : clauseOf ls ≡ g .clause = sym (r .1) ∙ ap (λ x. x .clause) (sym g-is) in
       simp (r .0, test, c-is) (elim (eqb (bitAnd used (p .bound)) used) as (λ t. cond (not t) (Err (fault UnboundVariable n)) (Ok (g .clause)) ≡ cond t (Ok (g .clause)) (Err (fault UnboundVariable n))) [ true ↦ refl | false ↦ refl ])
 
-  pub clause-unbound : (bitAnd used (p .bound) ≡ used → ⊥) → Err (fault UnboundVariable n) ≡ bindClause n h (blocksIn p) (clauseLiterals line)
-  clause-unbound d = sym (clause-by-mask (clauseLiterals line) refl ∙ ap (λ t. cond t (Ok (g .clause)) (Err (fault UnboundVariable n))) (ne-eqb (bitAnd used (p .bound)) used d))
+  pub clause-unbound : eqb (bitAnd used (p .bound)) used ≡ false → Err (fault UnboundVariable n) ≡ bindClause n h (blocksIn p) (clauseLiterals line)
+  clause-unbound d = sym (clause-by-mask (clauseLiterals line) refl ∙ ap (λ t. cond t (Ok (g .clause)) (Err (fault UnboundVariable n))) d)
 
-  pub clause-closed : bitAnd used (p .bound) ≡ used → Ok (g .clause) ≡ bindClause n h (blocksIn p) (clauseLiterals line)
-  clause-closed d = sym (clause-by-mask (clauseLiterals line) refl ∙ ap (λ t. cond t (Ok (g .clause)) (Err (fault UnboundVariable n))) (eq-eqb (bitAnd used (p .bound)) used d))
+  pub clause-closed : eqb (bitAnd used (p .bound)) used ≡ true → Ok (g .clause) ≡ bindClause n h (blocksIn p) (clauseLiterals line)
+  clause-closed d = sym (clause-by-mask (clauseLiterals line) refl ∙ ap (λ t. cond t (Ok (g .clause)) (Err (fault UnboundVariable n))) d)
 
 bound-push : (bs : List Block) (b : Block) → boundIn (bs ++ (b ∷ [])) ≡ boundIn bs ++ b .variables
 bound-push bs b = sym (joined-more (λ b. b .variables) [] bs b)
@@ -149,21 +149,21 @@ module _ (n : ℕ) (h : Counts) (p : Prefix) (q : Quantifier) (next : Bool) (lin
   count-is : (vs : List ℕ) → Some vs ≡ variablesOf line → numbers .count ≡ length vs
   count-is vs o-is = ap (λ b. b .count) (numbers-are vs o-is) ∙ count-widened none vs ∙ zero-add (length vs)
 
-  pub block-over : (maxBlocks ≤ p .count) ⊎ (maxWidth < numbers .count) → placed (variablesOf line) ≡ Err (fault OverLimit n)
-  block-over over = from (variablesOf line) refl
+  abbrev over : Bool
+  over = leb maxBlocks (length bs) || ltb maxWidth (numbers .count)
+
+  over-is : (vs : List ℕ) → Some vs ≡ variablesOf line → (leb maxBlocks (length bs) || ltb maxWidth (length vs)) ≡ over
+  over-is vs o-is = ap (λ k. leb maxBlocks (length bs) || ltb maxWidth k) (sym (count-is vs o-is))
+
+  pub block-over : over ≡ true → placed (variablesOf line) ≡ Err (fault OverLimit n)
+  block-over t = from (variablesOf line) refl
     where
       from : (o : Option (List ℕ)) → o ≡ variablesOf line → placed o ≡ Err (fault OverLimit n)
       from None o-is = absurd (none-read o-is)
-      from (Some vs) o-is =
-          let t : (leb maxBlocks (length bs) || ltb maxWidth (length vs)) ≡ true =
-          elim over [
-            | inl m ↦ or-left (leb maxBlocks (length bs)) (ltb maxWidth (length vs)) (le-leb maxBlocks (length bs) (omega (arith, blocks-count p)))
-            | inr w ↦ or-right (leb maxBlocks (length bs)) (ltb maxWidth (length vs)) (lt-ltb maxWidth (length vs) (omega (arith, count-is vs o-is)))
-          ] in
-          simp t
+      from (Some vs) o-is = simp (over-is vs o-is, t)
 
   -- Within the limits the mask decides.
-  module _ (room : p .count < maxBlocks) (narrow : numbers .count ≤ maxWidth) where
+  module _ (within : over ≡ false) where
     abbrev ruled : Option ℕ → Result Block Fault
     ruled None = Err (fault BadVariable n)
     ruled (Some m) = cond (repeats q bs || not (existential q || next)) (Err (fault BadAlternation n)) (Ok block)
@@ -174,7 +174,7 @@ module _ (n : ℕ) (h : Counts) (p : Prefix) (q : Quantifier) (next : Bool) (lin
     stored : (vs : List ℕ) → Some vs ≡ variablesOf line → block ≡ record { quantifier = q; variables = vs }
     stored vs o-is =
         ap (λ xs. record { quantifier = q; variables = xs })
-        (ap (λ b. take (b .count) (b .first)) (numbers-are vs o-is) ∙ numbers-widened vs (omega (arith, count-is vs o-is)))
+        (ap (λ b. take (b .count) (b .first)) (numbers-are vs o-is) ∙ numbers-widened vs (omega (arith, count-is vs o-is, ltb-false maxWidth (numbers .count) (or-parts (leb maxBlocks (length bs)) (ltb maxWidth (numbers .count)) within .1))))
 
     tried-is : (vs : List ℕ) → Some vs ≡ variablesOf line → tried ≡ bindRule (h .variables) (boundIn bs) vs
     tried-is vs o-is =
@@ -183,9 +183,7 @@ module _ (n : ℕ) (h : Counts) (p : Prefix) (q : Quantifier) (next : Bool) (lin
     by-mask : (o : Option (List ℕ)) → o ≡ variablesOf line → placed o ≡ ruled tried
     by-mask None o-is = absurd (none-read o-is)
     by-mask (Some vs) o-is =
-        let t : (leb maxBlocks (length bs) || ltb maxWidth (length vs)) ≡ false =
-        or-from (leb maxBlocks (length bs)) (ltb maxWidth (length vs)) (lt-leb maxBlocks (length bs) (omega (arith, blocks-count p))) (le-ltb maxWidth (length vs) (omega (arith, count-is vs o-is))) in
-        simp (t, tried-is vs o-is)
+        simp (over-is vs o-is, within, tried-is vs o-is)
         (elim (all (ranged (h .variables)) vs && distinct (boundIn bs ++ vs)) as (λ u.
         cond (not u) (Err (fault BadVariable n)) (cond (repeats q bs || not (existential q || next)) (Err (fault BadAlternation n)) (Ok (record { quantifier = q; variables = vs })))
         ≡ ruled (cond u (Some (maskOf (boundIn bs ++ vs))) None)) [ true ↦ ap (λ b. cond (repeats q bs || not (existential q || next)) (Err (fault BadAlternation n)) (Ok b)) (sym (stored vs o-is)) | false ↦ refl ])
@@ -215,3 +213,6 @@ module _ (n : ℕ) (h : Counts) (p : Prefix) (q : Quantifier) (next : Bool) (lin
 
       pub block-binds : Binds all-bound (boundIn (bs ++ (block ∷ [])))
       block-binds = binds-from (variablesOf line) refl
+
+    pub block-room : p .count < maxBlocks
+    block-room = omega (arith, blocks-count p, leb-false maxBlocks (length bs) (or-parts (leb maxBlocks (length bs)) (ltb maxWidth (numbers .count)) within .0))

@@ -5,7 +5,9 @@ ghost use Prim.Native.Nat.{ℕ, _≤_, _<_};
 ghost use Rattle.std.specs.Options.{okOr, mapped};
 ghost use Rattle.std.specs.Results.{Cases};
 ghost use Rattle.std.specs.declared.result.Result.the-variants.{Ok, Err};
-ghost use Rattle.qbf.specs.Limits.{maxVariables, maxBlocks};
+ghost use lib.Dec.{leb, ltb};
+ghost use lib.ListN.{length};
+ghost use Rattle.qbf.specs.Limits.{maxVariables, maxBlocks, maxWidth};
 ghost use Rattle.qbf.specs.Syntax.{boundIn};
 ghost use Rattle.qbf.specs.WellFormed.{existential, repeats};
 ghost use Rattle.qbf.specs.Stored.{blockOf};
@@ -36,6 +38,13 @@ fn numbers_of(line: &[u8], at: Fault) -> Result<Numbers, Fault>
     gather_numbers(&mut fields, at)
 }
 
+// Whether one block more, of these numbers, would be over a limit.
+fn is_over(prefix: &Prefix, numbers: &Numbers) -> bool
+    ensures { λ r. ⌜ r ≡ (leb maxBlocks (length (blocksIn (now (prefix .entry)))) || ltb maxWidth (now (numbers .entry) .count)) ⌝ }
+{
+    prefix.len() >= MAX_BLOCKS || numbers.count > MAX_WIDTH
+}
+
 // Whether a block may not stand here: it repeats the quantifier before it, or is universal with no block line next.
 fn misplaced(prefix: &Prefix, quantifier: Quantifier, next: bool) -> bool
     ensures { λ r. ⌜ r ≡ (repeats quantifier (blocksIn (now (prefix .entry))) || not (existential quantifier || next)) ⌝ }
@@ -62,7 +71,7 @@ pub(crate) fn read_block(
     ensures { λ r. ⌜ Cases r (λ p. (readBlock n counts (blocksIn (now (prefix .entry))) quantifier next (now (line .entry)) ≡ Ok (blockOf (p .0))) × (now (prefix .entry) .count < maxBlocks) × Binds (p .1) (boundIn (blocksIn (now (prefix .entry)) ++ (blockOf (p .0) ∷ [])))) (λ e. readBlock n counts (blocksIn (now (prefix .entry))) quantifier next (now (line .entry)) ≡ Err e) ⌝ }
 {
     let numbers = numbers_of(line, Fault::new(Cause::FormulaForm, n))?;
-    if prefix.count == MAX_BLOCKS || numbers.count > MAX_WIDTH {
+    if is_over(prefix, &numbers) {
         return Err(Fault::new(Cause::OverLimit, n));
     }
     let Some(bound) = bind(

@@ -1,6 +1,8 @@
 ghost use mathlib.Core.Path.{_≡_};
 ghost use Prim.Native.Nat.{ℕ, _≤_};
 ghost use Rattle.std.specs.Options.{okOr, mapped};
+ghost use lib.Dec.{eqb};
+ghost use lib.Bits.{bitAnd, bitOr};
 ghost use Rattle.qbf.specs.Limits.{maxVariables};
 ghost use Rattle.qbf.specs.Held.{blocksIn};
 ghost use Rattle.qbf.specs.Gathered.{nothing, gathered};
@@ -22,6 +24,14 @@ fn literals_of(line: &[u8], at: Fault) -> Result<Gathered, Fault>
     gather(&mut fields, at)
 }
 
+// Whether all literals of a clause are bound.
+fn is_closed(clause: Clause, bound: u64) -> bool
+    ensures { λ r. ⌜ r ≡ eqb (bitAnd (bitOr (clause .positive) (clause .negative)) bound) (bitOr (clause .positive) (clause .negative)) ⌝ }
+{
+    let used = clause.positive | clause.negative;
+    used & bound == used
+}
+
 // Reads a clause line, on line n.
 pub(crate) fn read_clause(
     line: &[u8],
@@ -36,8 +46,7 @@ pub(crate) fn read_clause(
     if literals.highest > counts.variables {
         return Err(Fault::new(Cause::BadVariable, n));
     }
-    let used = literals.clause.positive | literals.clause.negative;
-    if used & prefix.bound != used {
+    if !is_closed(literals.clause, prefix.bound) {
         return Err(Fault::new(Cause::UnboundVariable, n));
     }
     Ok(literals.clause)

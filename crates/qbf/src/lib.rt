@@ -16,3 +16,4 @@ mod matrix;
 mod numbers;
 mod prefix;
 pub mod read;
+mod tables;

@@ -28,12 +28,6 @@ impl Matrix {
         }
     }
 
-    pub(crate) fn len(&self) -> usize
-        ensures { λ r. ⌜ r ≡ length (take (now (self .entry) .count) (now (self .entry) .clauses)) ⌝ }
-    {
-        self.count
-    }
-
     // One clause more, within the limit.
     pub(crate) fn push(&mut self, clause: Clause)
         requires { ⌜ length (take (now self .count) (now self .clauses)) < maxClauses ⌝ }

@@ -17,7 +17,8 @@ fn sample(heap: Global) -> Result<Vec<u8>, AllocError> {
     text.extend_from_slice(b"a 33 34 35 36 37 38 39 40 0\ne 41 42 43 44 45 46 47 48 0\n")?;
     text.extend_from_slice(b"a 49 50 51 52 53 54 55 56 0\ne 57 58 59 60 61 62 63 64 0\n")?;
     for clause in 0..128usize {
-        let full = text.len().saturating_add(128usize.saturating_sub(clause).saturating_mul(2));
+        let full = text.len()
+            .saturating_add(128usize.saturating_sub(clause).saturating_mul(2));
         let room = SIZE.saturating_sub(full) / 128usize.saturating_sub(clause).max(1);
         for k in 0..room / 4 {
             let literal: &[u8] = if k % 2 == 0 { b"-17 " } else { b" 64 " };
@@ -45,7 +46,10 @@ fn run(rt: &LibcRuntime) -> Result<(), AnyError> {
             }
         }
     }
-    println!(rt, "{size} bytes, read {turns} times, accepted {accepted} times")?;
+    println!(
+        rt,
+        "{size} bytes, read {turns} times, accepted {accepted} times"
+    )?;
     Ok(())
 }
 

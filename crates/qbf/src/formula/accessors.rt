@@ -5,9 +5,7 @@ ghost use Rattle.std.specs.Options.{mapped};
 ghost use Rattle.std.specs.shelf.Maps.{nth};
 ghost use Rattle.text.specs.Taken.{andThen};
 ghost use Rattle.qbf.specs.Places.{numbered};
-ghost use Rattle.qbf.specs.Stored.{blockOf};
 ghost use Rattle.qbf.specs.Held.{qbfOf};
-use crate::block::Block;
 use crate::formula::Formula;
 use crate::literal::Clause;
 use crate::literal::Quantifier;
@@ -24,32 +22,21 @@ impl Formula {
     pub fn blocks(&self) -> usize
         ensures { λ r. ⌜ r ≡ length (qbfOf (now (self .entry)) .prefix) ⌝ }
     {
-        self.prefix.count
+        self.prefix.len()
     }
 
     // How many clauses there are. They are numbered from 1 up to this.
     pub fn clauses(&self) -> usize
         ensures { λ r. ⌜ r ≡ length (qbfOf (now (self .entry)) .matrix) ⌝ }
     {
-        self.matrix.count
-    }
-
-    // The block at a level.
-    fn block(&self, level: usize) -> Option<Block>
-        ensures { λ r. ⌜ mapped blockOf r ≡ numbered (qbfOf (now (self .entry)) .prefix) level ⌝ }
-    {
-        let count = self.prefix.count;
-        if level == 0 || level > count {
-            return None;
-        }
-        Some(self.prefix.blocks[level - 1])
+        self.matrix.len()
     }
 
     // The quantifier of the block at a level, or none where there is no such level.
     pub fn quantifier(&self, level: usize) -> Option<Quantifier>
         ensures { λ r. ⌜ r ≡ mapped (λ b. b .quantifier) (numbered (qbfOf (now (self .entry)) .prefix) level) ⌝ }
     {
-        match self.block(level) {
+        match self.prefix.block(level) {
             Some(block) => Some(block.quantifier),
             None => None,
         }
@@ -59,7 +46,7 @@ impl Formula {
     pub fn width(&self, level: usize) -> Option<usize>
         ensures { λ r. ⌜ r ≡ mapped (λ b. length (b .variables)) (numbered (qbfOf (now (self .entry)) .prefix) level) ⌝ }
     {
-        match self.block(level) {
+        match self.prefix.block(level) {
             Some(block) => Some(block.width),
             None => None,
         }
@@ -69,23 +56,16 @@ impl Formula {
     pub fn variable(&self, level: usize, k: usize) -> Option<u32>
         ensures { λ r. ⌜ r ≡ andThen (numbered (qbfOf (now (self .entry)) .prefix) level) (λ b. nth (b .variables) k) ⌝ }
     {
-        let Some(block) = self.block(level) else {
+        let Some(block) = self.prefix.block(level) else {
             return None;
         };
-        if k >= block.width {
-            return None;
-        }
-        Some(block.variables[k])
+        block.variable(k)
     }
 
     // The clause with this number.
     pub fn clause(&self, number: usize) -> Option<Clause>
         ensures { λ r. ⌜ r ≡ numbered (qbfOf (now (self .entry)) .matrix) number ⌝ }
     {
-        let count = self.matrix.count;
-        if number == 0 || number > count {
-            return None;
-        }
-        Some(self.matrix.clauses[number - 1])
+        self.matrix.clause(number)
     }
 }

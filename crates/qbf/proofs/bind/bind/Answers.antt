@@ -1,5 +1,9 @@
 use borrow.Author.Needs.{needs}
+use mathlib.Core.Bool.{false}
 use mathlib.Core.Logic.{inl, inr}
+use mathlib.Core.Path.{_≡_, sym, _∙_}
+use lib.Bits.{bitAnd}
+use lib.Dec.{eqb}
 use Rattle.qbf.proofs.Binding.{bind-outside, bind-again, bind-more, bind-end}
 use Rattle.qbf.proofs.bind.bind.Needs as need
 use Rattle.qbf.proofs.bind.bind.Needs.{then-v-eq0·by·then-v-eq0, then-v-eq0·by·else-v-eq0·then-v-highest}
@@ -11,8 +15,10 @@ returns-then-v-eq0 c =
       | then-v-eq0·by·else-v-eq0·then-v-highest w ↦ search (needs, bind-outside, inr)
     ]
 
-pub returns-then-all-bit-ne0 : need.returns-then-all-bit-ne0
-returns-then-all-bit-ne0 c = search (needs, bind-again)
+pub returns-then-not-is-free : need.returns-then-not-is-free
+returns-then-not-is-free c =
+    let again : eqb (bitAnd (c .loop-v .all) (c .mask-bit .result)) 0 ≡ false = sym (c .is-free .ensures) ∙ c .if-not-is-free .taken in
+    search (needs, bind-again)
 
 pub loop-v-again : need.loop-v-again
 loop-v-again c = search (needs, bind-more)

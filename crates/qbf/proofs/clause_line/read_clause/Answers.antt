@@ -11,8 +11,8 @@ returns-then-literals-counts c =
     ap Err (c .new-then-literals-counts .ensures)
     ∙ clause-high _ (c .args .counts) (blocksIn (now (c .args .prefix))) (now (c .args .line)) _ _ (c .in-Continue-literals .ensures tt) (c .if-literals-counts .taken)
 
-pub returns-then-used-prefix : need.returns-then-used-prefix
-returns-then-used-prefix c = search (needs, clause-unbound)
+pub returns-then-not-is-closed : need.returns-then-not-is-closed
+returns-then-not-is-closed c = search (needs, clause-unbound)
 
 pub returns : need.returns
 returns c = search (needs, clause-closed)

@@ -2,7 +2,7 @@ use borrow.Author.Needs.{needs}
 use native.Mathlib.Omega.{arith}
 use denote.Ref.{now}
 use Rattle.std.proofs.shelf.Lists.{take-more-set}
-use Rattle.qbf.proofs.Tables.{clauses-count}
+use Rattle.qbf.proofs.Fronts.{clauses-count}
 use Rattle.qbf.proofs.matrix.Matrix.push.Needs as need
 
 pub index-self-count : need.index-self-count

@@ -5,7 +5,7 @@ use mathlib.Core.Path.{sym, subst}
 use lib.ListN.{length}
 use Rattle.qbf.specs.Syntax.{boundIn}
 use Rattle.qbf.specs.Bound.{Binds}
-use Rattle.qbf.proofs.Tables.{blocks-push}
+use Rattle.qbf.proofs.Fronts.{blocks-push}
 use Rattle.qbf.proofs.prefix.Prefix.push.Needs as need
 
 pub ghost-self : need.ghost-self

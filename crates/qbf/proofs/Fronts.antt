@@ -1,4 +1,4 @@
--- Blocks in a table.
+-- The fronts of tables: the blocks and clauses that are held.
 use mathlib.Core.Path.{_≡_, sym, ap, _∙_}
 use mathlib.Core.List.{List, [], _∷_, _++_, map}
 use Prim.Native.Nat.{ℕ, zero, suc, _+_, _-_, _<_, _≤_}
