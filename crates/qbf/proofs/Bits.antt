@@ -1,13 +1,14 @@
 -- Numbers as sets of bits.
 use mathlib.Core.Path.{_≡_, refl, sym, ap, ap₂, _∙_}
 use mathlib.Core.Logic.{inl, inr}
-use mathlib.Core.Bool.{Bool, true, false, cond, _&&_}
-use Prim.Native.Nat.{ℕ, zero, suc, _+_, _-_, _*_, _/_, _%_, _^_, _<_, _≤_, min, max}
+use mathlib.Core.Bool.{true, cond, _&&_}
+use Prim.Native.Nat.{ℕ, zero, suc, _+_, _-_, _*_, _/_, _%_, _^_, _<_, _≤_, max}
 use native.Mathlib.Omega.{arith}
-use native.Mathlib.Nat.{pow-suc, mul-comm, mul-assoc}
+use native.Mathlib.Nat.{pow-suc, mul-assoc}
 use lib.Dec.{eqb}
-use lib.Bits.{bitAnd, bitOr, and-step, or-step, and-comm, or-comm, and-zero-r}
+use lib.Bits.{bitAnd, bitOr, and-step, or-step, and-comm, or-comm, and-self, and-zero-r, and-le-r, or-zero-l, or-add-and}
 use Rattle.std.proofs.shelf.Tests.{cases-bool, cases-eq, eqb-true, eqb-false, eq-eqb, ne-eqb, cond-true, cond-false}
+use Rattle.qbf.specs.Sets.{inside}
 
 -- Bit c of a number, 0 or 1.
 abbrev pub bit : ℕ → ℕ → ℕ
@@ -84,15 +85,46 @@ and-or-within (suc n) p a b h =
 pub and-or : (p a b : ℕ) → bitAnd p (bitOr a b) ≡ bitOr (bitAnd p a) (bitAnd p b)
 and-or p a b = and-or-within p p a b (omega arith)
 
+-- A union is empty just where both parts are.
+pub or-none : (a b : ℕ) → eqb (bitOr a b) 0 ≡ (eqb a 0 && eqb b 0)
+or-none a b =
+    elim (cases-bool (eqb a 0)) [
+      | inl h ↦ let z = eqb-true a 0 h in simp (z, or-zero-l)
+      | inr h ↦ simp h (ne-eqb (bitOr a b) 0 (λ e. eqb-false a 0 h (omega (arith, or-add-and a b, and-le-r a b, e))))
+    ]
+
 -- a lies inside b.
 abbrev pub Sub : ℕ → ℕ → Type 0
 Sub a b = bitAnd a b ≡ a
 
-sub-half : (a b : ℕ) → Sub a b → Sub (a / 2) (b / 2)
+pub sub-of : (a b : ℕ) → inside a b ≡ true → Sub a b
+sub-of a b h = eqb-true (bitAnd a b) a h
+
+pub of-sub : (a b : ℕ) → Sub a b → inside a b ≡ true
+of-sub a b h = eq-eqb (bitAnd a b) a h
+
+pub sub-self : (a : ℕ) → Sub a a
+sub-self a = and-self a
+
+pub sub-both : (a b : ℕ) → Sub a b → Sub b a → a ≡ b
+sub-both a b h k = sym h ∙ and-comm a b ∙ k
+
+pub sub-none : (a b : ℕ) → Sub a b → b ≡ 0 → a ≡ 0
+sub-none a b h e = sym h ∙ ap (bitAnd a) e ∙ and-zero-r a
+
+pub sub-half : (a b : ℕ) → Sub a b → Sub (a / 2) (b / 2)
 sub-half a b h = omega (arith, and-step a b)
 
-sub-low : (a b : ℕ) → Sub a b → a % 2 ≤ b % 2
+pub sub-low : (a b : ℕ) → Sub a b → a % 2 ≤ b % 2
 sub-low a b h = omega (arith, and-step a b)
+
+-- Lowest bits in order, before the rest in order.
+pub sub-join : (x y r s : ℕ) → x ≤ y → y < 2 → Sub r s → Sub (x + 2 * r) (y + 2 * s)
+sub-join x y r s h k e =
+    let p : (x + 2 * r) / 2 ≡ r = omega arith in
+    let q : (y + 2 * s) / 2 ≡ s = omega arith in
+    let m : bitAnd ((x + 2 * r) / 2) ((y + 2 * s) / 2) ≡ r = ap₂ bitAnd p q ∙ e in
+    omega (arith, and-step (x + 2 * r) (y + 2 * s))
 
 sub-on-within : (n a b d : ℕ) → a ≤ n → Sub a b → Sub b d → Sub a d
 sub-on-within zero a b d l h k = let z : a ≡ 0 = omega arith in rw z
@@ -111,9 +143,6 @@ sub-or-within (suc n) a b h =
 
 pub sub-or : (a b : ℕ) → Sub a (bitOr a b)
 sub-or a b = sub-or-within a a b (omega arith)
-
-abbrev pub inside : ℕ → ℕ → Bool
-inside a b = eqb (bitAnd a b) a
 
 both-inside : (a b m : ℕ) → Sub a m → Sub b m → Sub (bitOr a b) m
 both-inside a b m h k =

@@ -10,3 +10,12 @@ pub mod LiteralForms
 pub mod Prefixes
 pub mod LineForms
 pub mod TextForms
+pub mod Members
+pub mod Rests
+pub mod Values
+pub mod Quantified
+pub mod Sides
+pub mod Choosing
+pub mod OneByOne
+pub mod Truths
+pub mod Refereeing

@@ -1,22 +1,21 @@
 -- Sets of variables as masks.
 use mathlib.Core.Path.{_≡_, refl, sym, ap, ap₂, _∙_}
 use mathlib.Core.Logic.{inl, inr}
-use mathlib.Core.List.{List, [], _∷_, _++_, append-assoc}
+use mathlib.Core.List.{List, [], _∷_, _++_}
 use mathlib.Core.Bool.{Bool, true, false, cond, not, _&&_, _||_}
-use Prim.Native.Nat.{ℕ, suc, _+_, _-_, _*_, _^_, _<_, _≤_, max}
+use Prim.Native.Nat.{ℕ, suc, _+_, _-_, _*_, _^_, _≤_, max}
 use native.Mathlib.Omega.{arith}
 use native.Mathlib.Nat.{zero-mul}
-use lib.Dec.{eqb, leb}
+use lib.Dec.{eqb}
 use lib.Pow.{pow-pos}
-use lib.Bits.{bitAnd, bitOr, and-comm, or-comm, or-zero-r}
-use Rattle.std.specs.declared.option.Option.{Option}
-use Rattle.std.specs.declared.option.Option.the-variants.{Some, None}
-use Rattle.std.proofs.shelf.Tests.{cases-bool, cases-eq, eqb-true, eqb-false, eq-eqb, ne-eqb, cond-true, cond-false, leb-true, and-parts, and-from, not-from-true, not-from-false}
+use lib.Bits.{bitAnd, bitOr, and-comm, or-comm}
+use Rattle.std.proofs.shelf.Tests.{cases-bool, cases-eq, eqb-true, eq-eqb, ne-eqb, leb-true, and-parts, and-from}
 use Rattle.qbf.specs.declared.literal.Literal.{Literal}
 use Rattle.qbf.specs.declared.literal.Clause.{Clause}
 use Rattle.qbf.specs.Syntax.{maskOf, withLiteral, clauseOf}
 use Rattle.qbf.specs.WellFormed.{all, elem, positive, closed}
-use Rattle.qbf.proofs.Bits.{bit, bit-or, bit-zero, bit-power, and-power, or-assoc, sub-on, sub-or, inside, inside-or}
+use Rattle.qbf.specs.Sets.{inside}
+use Rattle.qbf.proofs.Bits.{bit, bit-or, bit-zero, bit-power, and-power, or-assoc, sub-on, sub-or, inside-or}
 
 same-place : (c w : ℕ) → 1 ≤ w → eqb c (w - 1) ≡ eqb (suc c) w
 same-place c w h =

@@ -10,3 +10,10 @@ pub mod Form
 pub mod Bound
 pub mod Held
 pub mod Places
+pub mod Sets
+pub mod Truth
+pub mod Decided
+pub mod Plain
+pub mod Candidates
+pub mod TruthLaws
+pub mod Verdicts

@@ -13,3 +13,7 @@ maxBlocks = 16
 -- The variables in one block.
 abbrev pub maxWidth : ℕ
 maxWidth = 12
+
+-- The variables bound by a formula that is decided by trying every assignment.
+abbrev pub maxDecided : ℕ
+maxDecided = 20

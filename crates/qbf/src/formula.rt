@@ -17,8 +17,8 @@ use crate::prefix::Prefix;
 #[derive(Drop)]
 pub struct Formula {
     variables: u32,
-    prefix: Prefix,
-    matrix: Matrix,
+    pub(crate) prefix: Prefix,
+    pub(crate) matrix: Matrix,
     ghost few: { variables ≤ maxVariables },
     ghost widths: { all wide (blocksOf (prefix .count) (prefix .blocks)) ≡ true },
     ghost range: { all (ranged variables) (boundIn (blocksOf (prefix .count) (prefix .blocks))) ≡ true },

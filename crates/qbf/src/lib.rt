@@ -16,4 +16,6 @@ mod matrix;
 mod numbers;
 mod prefix;
 pub mod read;
+pub mod referee;
 mod tables;
+pub mod verdict;

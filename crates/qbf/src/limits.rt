@@ -11,3 +11,6 @@ pub const MAX_BLOCKS: usize = 16;
 
 // Variables in one block.
 pub const MAX_WIDTH: usize = 12;
+
+// Variables bound by a formula that is decided by trying every assignment.
+pub const MAX_DECIDED: usize = 20;

@@ -2,6 +2,7 @@ ghost use mathlib.Core.Path.{_≡_};
 ghost use Prim.Native.Nat.{ℕ, _-_, _^_, _≤_};
 ghost use Rattle.qbf.specs.Limits.{maxVariables};
 ghost use Rattle.qbf.specs.WellFormed.{same};
+ghost use Rattle.qbf.specs.Truth.{satisfied};
 
 // How a block binds its variables.
 #[derive(Clone, Copy, PartialEq, Eq, Debug, Drop)]
@@ -35,6 +36,15 @@ pub struct Literal {
 pub struct Clause {
     pub positive: u64,
     pub negative: u64,
+}
+
+impl Clause {
+    // Whether it has a literal that is true, where the variables in one mask are true and those in the other false.
+    pub(crate) fn satisfied(self, trues: u64, falses: u64) -> bool
+        ensures { λ r. ⌜ r ≡ satisfied self trues falses ⌝ }
+    {
+        self.positive & trues != 0 || self.negative & falses != 0
+    }
 }
 
 // The mask of one variable.

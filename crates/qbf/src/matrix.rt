@@ -28,6 +28,12 @@ impl Matrix {
         }
     }
 
+    pub(crate) fn list(&self) -> &[Clause]
+        ensures { λ r. ⌜ now r ≡ take (now (self .entry) .count) (now (self .entry) .clauses) ⌝ }
+    {
+        &self.clauses[0..self.count]
+    }
+
     // One clause more, within the limit.
     pub(crate) fn push(&mut self, clause: Clause)
         requires { ⌜ length (take (now self .count) (now self .clauses)) < maxClauses ⌝ }

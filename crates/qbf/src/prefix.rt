@@ -1,7 +1,7 @@
 ghost use mathlib.Core.Path.{_≡_};
 ghost use mathlib.Core.List.{_++_, _∷_, []};
 ghost use Prim.Native.Nat.{ℕ, _≤_, _<_};
-ghost use lib.ListN.{length};
+ghost use lib.ListN.{length, take};
 ghost use Rattle.qbf.specs.Limits.{maxBlocks};
 ghost use Rattle.qbf.specs.Syntax.{boundIn};
 ghost use Rattle.qbf.specs.Bound.{Binds};
@@ -48,6 +48,12 @@ impl Prefix {
         self.blocks[count] = block;
         self.count = count + 1;
         self.bound = bound;
+    }
+
+    pub(crate) fn list(&self) -> &[Block]
+        ensures { λ r. ⌜ now r ≡ take (now (self .entry) .count) (now (self .entry) .blocks) ⌝ }
+    {
+        &self.blocks[0..self.count]
     }
 
     // Whether a block with this quantifier would follow one with the same.
