@@ -1,5 +1,8 @@
 use qbf::formula::Formula;
+use qbf::limits::MAX_DECIDED;
 use qbf::literal::Quantifier;
+use qbf::referee::decide;
+use qbf::verdict::Verdict;
 use std::error::AnyError;
 
 // The block at a level, as its line in a formula's text has it, without the 0.
@@ -17,7 +20,20 @@ fn print_block(rt: &LibcRuntime, formula: &Formula, level: usize) -> Result<(), 
     Ok(())
 }
 
-// Counts, and a line for each block from the outermost.
+// The truth of a formula that binds few variables.
+fn print_truth(rt: &LibcRuntime, formula: &Formula) -> Result<(), AnyError> {
+    match decide(formula) {
+        Some(Verdict::True) => rt.println("truth true")?,
+        Some(Verdict::False) => rt.println("truth false")?,
+        None => println!(
+            rt,
+            "truth not tried, more than {MAX_DECIDED} variables are bound"
+        )?,
+    }
+    Ok(())
+}
+
+// Counts, a line for each block from the outermost, and the truth.
 pub fn print_shape(rt: &LibcRuntime, formula: &Formula) -> Result<(), AnyError> {
     let variables = formula.variables();
     let clauses = formula.clauses();
@@ -28,5 +44,5 @@ pub fn print_shape(rt: &LibcRuntime, formula: &Formula) -> Result<(), AnyError> 
     for level in 0..blocks {
         print_block(rt, formula, level + 1)?;
     }
-    Ok(())
+    print_truth(rt, formula)
 }
