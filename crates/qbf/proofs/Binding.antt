@@ -15,27 +15,24 @@ use Rattle.std.proofs.shelf.Tests.{cases-bool, leb-true, le-leb, lt-leb, and-pa
 use Rattle.qbf.specs.Syntax.{maskOf}
 use Rattle.qbf.specs.WellFormed.{all, elem, distinct, positive, ranged}
 use Rattle.qbf.specs.Bound.{bindAll}
+use Rattle.qbf.proofs.Members.{all-append}
 use Rattle.qbf.proofs.Masks.{mask-free, mask-append}
-
-pub all-append : {A : Type 0} (p : A → Bool) (xs ys : List A) → all p (xs ++ ys) ≡ (all p xs && all p ys)
-all-append p [] ys = refl
-all-append p (x ∷ xs) ys = elim (p x) as (λ t. (t && all p (xs ++ ys)) ≡ ((t && all p xs) && all p ys)) [ true ↦ all-append p xs ys | false ↦ refl ]
 
 pub elem-append : (v : ℕ) (xs ys : List ℕ) → elem v (xs ++ ys) ≡ (elem v xs || elem v ys)
 elem-append v [] ys = refl
 elem-append v (x ∷ xs) ys = elim (eqb v x) as (λ t. (t || elem v (xs ++ ys)) ≡ ((t || elem v xs) || elem v ys)) [ true ↦ refl | false ↦ elem-append v xs ys ]
 
 -- A number that stood before stands twice.
-twice : (v : ℕ) (ws vs : List ℕ) → elem v ws ≡ true → distinct (ws ++ (v ∷ vs)) ≡ false
-twice v [] vs e = cc
-twice v (w ∷ ws) vs e =
+stands-twice : (v : ℕ) (ws vs : List ℕ) → elem v ws ≡ true → distinct (ws ++ (v ∷ vs)) ≡ false
+stands-twice v [] vs e = cc
+stands-twice v (w ∷ ws) vs e =
     elim (cases-eq v w) [
       | inl h ↦
           let again : elem w (ws ++ (v ∷ vs)) ≡ true = elem-append w ws (v ∷ vs) ∙ or-right (elem w ws) (elem w (v ∷ vs)) (or-left (eqb w v) (elem w vs) (eq-eqb w v (sym h))) in
           ap (λ t. not t && distinct (ws ++ (v ∷ vs))) again
       | inr n ↦
           let later : elem v ws ≡ true = sym (ap (λ t. t || elem v ws) (ne-eqb v w n)) ∙ e in
-          and-right (not (elem w (ws ++ (v ∷ vs)))) (distinct (ws ++ (v ∷ vs))) (twice v ws vs later)
+          and-right (not (elem w (ws ++ (v ∷ vs)))) (distinct (ws ++ (v ∷ vs))) (stands-twice v ws vs later)
     ]
 
 -- One number more, which did not stand before.
@@ -66,7 +63,7 @@ bound-by-rule highest ws (v ∷ vs) d p =
           let free = mask-free v ws (leb-true 1 v (r .0)) p in
           elim (cases-bool (elem v ws)) [
             | inl e ↦
-                let rule : (all (ranged highest) vs && distinct (ws ++ (v ∷ vs))) ≡ false = and-right (all (ranged highest) vs) (distinct (ws ++ (v ∷ vs))) (twice v ws vs e) in
+                let rule : (all (ranged highest) vs && distinct (ws ++ (v ∷ vs))) ≡ false = and-right (all (ranged highest) vs) (distinct (ws ++ (v ∷ vs))) (stands-twice v ws vs e) in
                 simp (t, free, e, rule)
             | inr e ↦
                 let one : bitOr (maskOf ws) (2 ^ (v - 1)) ≡ maskOf (ws ++ (v ∷ [])) = sym (mask-append ws (v ∷ []) ∙ ap (bitOr (maskOf ws)) (or-zero-r (2 ^ (v - 1)))) in

@@ -14,8 +14,7 @@ use Rattle.std.specs.declared.option.Option.{Option}
 use Rattle.std.specs.declared.option.Option.the-variants.{Some, None}
 use Rattle.std.specs.declared.result.Result.{Result}
 use Rattle.std.specs.declared.result.Result.the-variants.{Ok, Err}
-use Rattle.std.proofs.shelf.Lists.{joined-more}
-use Rattle.std.proofs.shelf.Tests.{cases-bool, leb-true, leb-false, le-leb, lt-leb, ltb-false, and-parts, and-from, eqb-true, eq-eqb, ne-eqb, or-parts, cases-eq}
+use Rattle.std.proofs.shelf.Tests.{cases-bool, leb-true, leb-false, le-leb, lt-leb, ltb-false, and-parts, and-from, eqb-false, or-parts}
 use Rattle.faults.specs.declared.cause.Cause.the-variants.{OverLimit, BadVariable, BadAlternation, UnboundVariable}
 use Rattle.faults.specs.declared.fault.Fault.{Fault}
 use Rattle.text.specs.Rows.{fieldsOf}
@@ -38,40 +37,28 @@ use Rattle.qbf.specs.Parse.{fault, variablesOf, clauseLiterals, placeBlock, bi
 use Rattle.qbf.proofs.Fronts.{blocks-count}
 use Rattle.qbf.proofs.Masks.{closed-elem}
 use Rattle.qbf.proofs.Gathering.{count-widened, numbers-widened, highest-gathered, clause-gathered}
-use Rattle.qbf.proofs.Binding.{all-append, bound-by-rule, bindRule}
-
-all-weaker : {A : Type 0} (p q : A → Bool) → ((x : A) → p x ≡ true → q x ≡ true) → (xs : List A) → all p xs ≡ true → all q xs ≡ true
-all-weaker p q w [] h = refl
-all-weaker p q w (x ∷ xs) h = let r = and-parts (p x) (all p xs) h in simp (w x (r .0), all-weaker p q w xs (r .1))
+use Rattle.qbf.proofs.Members.{all-append, all-weaker}
+use Rattle.qbf.proofs.Binding.{bound-by-rule, bindRule}
+use Rattle.qbf.proofs.LiteralForms.{then-some, cond-cases, ended-made}
+use Rattle.qbf.proofs.Prefixes.{bound-push}
 
 -- Literals that were read are of variables from 1 up.
 abbrev PositiveLiterals : List Literal → Type 0
 PositiveLiterals ls = all (λ l. positive (l .variable)) ls ≡ true
 
-last-literal : (ws : List (List ℕ)) (ls : List Literal) → andThen (ended ws) (λ _. Some []) ≡ Some ls → PositiveLiterals ls
-last-literal [] ls h = let z : ls ≡ [] = cc in simp z
-last-literal (w ∷ ws) ls h = cc
-
-more-literals : (l : Literal) (o : Option (List Literal)) (ls : List Literal) → positive (l .variable) ≡ true → ((ms : List Literal) → o ≡ Some ms → PositiveLiterals ms) → prepend l o ≡ Some ls → PositiveLiterals ls
-more-literals l None ls p later h = cc
-more-literals l (Some ms) ls p later h = let z : ls ≡ l ∷ ms = cc in simp (z, p, later ms refl)
-
-next-literal : (o : Option Literal) (ws : List (List ℕ)) (ls : List Literal) → ((ms : List Literal) → literalsOf ws ≡ Some ms → PositiveLiterals ms) →
-    andThen o (λ l. cond (eqb (l .variable) 0) (andThen (ended ws) (λ _. Some [])) (prepend l (literalsOf ws))) ≡ Some ls → PositiveLiterals ls
-next-literal None ws ls later h = cc
-next-literal (Some l) ws ls later h =
-    elim (cases-eq (l .variable) 0) [
-      | inl z ↦ last-literal ws ls (simp (eq-eqb (l .variable) 0 z) at h)
-      | inr n ↦ more-literals l (literalsOf ws) ls (le-leb 1 (l .variable) (omega arith)) later (simp (ne-eqb (l .variable) 0 n) at h)
-    ]
-
 literals-positive : (ws : List (List ℕ)) (ls : List Literal) → literalsOf ws ≡ Some ls → PositiveLiterals ls
 literals-positive [] ls e = cc
-literals-positive (w ∷ ws) ls e = next-literal (literalOf w) ws ls (literals-positive ws) e
+literals-positive (w ∷ ws) ls e =
+    then-some (literalOf w) _ ls e (λ l d e.
+    cond-cases (eqb (l .variable) 0) _ _ _ e
+    (λ z e. let none = ended-made ws [] ls e .1 in rw (← none) refl)
+    (λ n e. then-some (literalsOf ws) _ ls e (λ ms r e.
+    let is : _≡_ {A = List Literal} (l ∷ ms) ls = cc in
+    let some : 1 ≤ l .variable = let d = eqb-false (l .variable) 0 n in omega arith in
+    rw (← is) (and-from (positive (l .variable)) _ (le-leb 1 (l .variable) some) (literals-positive ws ms r)))))
 
 fields-positive : (o : Option (List (List ℕ))) (ls : List Literal) → andThen o literalsOf ≡ Some ls → PositiveLiterals ls
-fields-positive None ls e = cc
-fields-positive (Some ws) ls e = literals-positive ws ls e
+fields-positive o ls e = then-some o literalsOf ls e (λ ws d e. literals-positive ws ls e)
 
 -- A clause line, of which the literals g were gathered.
 high-test : (ls : List Literal) (v : ℕ) → leb (gathered nothing ls .highest) v ≡ all (λ l. leb (l .variable) v) ls
@@ -122,9 +109,6 @@ module _ (n : ℕ) (h : Counts) (p : Prefix) (line : List ℕ) (g : Gathered) (a
 
   pub clause-closed : eqb (bitAnd used (p .bound)) used ≡ true → Ok (g .clause) ≡ bindClause n h (blocksIn p) (clauseLiterals line)
   clause-closed d = sym (clause-by-mask (clauseLiterals line) refl ∙ ap (λ t. cond t (Ok (g .clause)) (Err (fault UnboundVariable n))) d)
-
-bound-push : (bs : List Block) (b : Block) → boundIn (bs ++ (b ∷ [])) ≡ boundIn bs ++ b .variables
-bound-push bs b = sym (joined-more (λ b. b .variables) [] bs b)
 
 -- A block line after the blocks of a prefix, of which the numbers were gathered.
 module _ (n : ℕ) (h : Counts) (p : Prefix) (q : Quantifier) (next : Bool) (line : List ℕ) (numbers : Numbers) (at : Fault)

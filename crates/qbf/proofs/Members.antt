@@ -1,7 +1,7 @@
 -- Members of lists, and what some or all of them pass.
 use mathlib.Core.Path.{_≡_, refl, sym, ap, subst}
 use mathlib.Core.List.{List, [], _∷_, _++_}
-use mathlib.Core.Bool.{Bool, true, false, cond}
+use mathlib.Core.Bool.{Bool, true, false, cond, _&&_}
 use mathlib.Core.Logic.{_⊎_, inl, inr}
 use Prim.Native.Nat.{ℕ, zero, suc, _<_}
 use native.Mathlib.Omega.{arith}
@@ -9,6 +9,15 @@ use Rattle.std.specs.shelf.Lists.{kept-by}
 use Rattle.std.proofs.shelf.Tests.{cond-both, both-ways, cases-eq, and-parts, and-from, and-cases, or-left, or-right, or-cases}
 use Rattle.qbf.specs.WellFormed.{all}
 use Rattle.qbf.specs.Truth.{any, below}
+
+pub all-append : {A : Type 0} (p : A → Bool) (xs ys : List A) → all p (xs ++ ys) ≡ (all p xs && all p ys)
+all-append p [] ys = refl
+all-append p (x ∷ xs) ys =
+    elim (p x) as (λ t. (t && all p (xs ++ ys)) ≡ ((t && all p xs) && all p ys)) [ true ↦ all-append p xs ys | false ↦ refl ]
+
+pub all-weaker : {A : Type 0} (p q : A → Bool) → ((x : A) → p x ≡ true → q x ≡ true) → (xs : List A) → all p xs ≡ true → all q xs ≡ true
+all-weaker p q w [] h = refl
+all-weaker p q w (x ∷ xs) h = let r = and-parts (p x) (all p xs) h in simp (w x (r .0), all-weaker p q w xs (r .1))
 
 pub data Mem {A : Type 0} (x : A) : List A → Type 0 where
   here : {xs : List A} → Mem x (x ∷ xs)

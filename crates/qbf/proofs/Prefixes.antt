@@ -13,6 +13,7 @@ use Rattle.qbf.specs.declared.literal.Quantifier.the-variants.{Existential, Un
 use Rattle.qbf.specs.Limits.{maxBlocks}
 use Rattle.qbf.specs.Syntax.{Block, boundIn}
 use Rattle.qbf.specs.WellFormed.{all, elem, distinct, ranged, existential, same, repeats, wide, alternating, innermost}
+use Rattle.qbf.proofs.Members.{all-append}
 
 -- What WellFormed says of the blocks, but that the innermost is existential.
 pub record Sound (highest : ℕ) (bs : List Block) : Type 0 where
@@ -29,11 +30,6 @@ pub record Follows (highest : ℕ) (bs : List Block) (b : Block) : Type 0 where
   pub range : all (ranged highest) (b .variables) ≡ true
   pub once : distinct (boundIn bs ++ b .variables) ≡ true
   pub turns : repeats (b .quantifier) bs ≡ false
-
-all-append : {A : Type 0} (p : A → Bool) (xs ys : List A) → all p (xs ++ ys) ≡ (all p xs && all p ys)
-all-append p [] ys = refl
-all-append p (x ∷ xs) ys =
-    elim (p x) as (λ t. (t && all p (xs ++ ys)) ≡ ((t && all p xs) && all p ys)) [ true ↦ all-append p xs ys | false ↦ refl ]
 
 all-parts : {A : Type 0} (p : A → Bool) (xs ys : List A) → all p (xs ++ ys) ≡ true → (all p xs ≡ true) × (all p ys ≡ true)
 all-parts p xs ys h = and-parts (all p xs) (all p ys) (sym (all-append p xs ys) ∙ h)
@@ -74,7 +70,7 @@ innermost-push [] b = refl
 innermost-push (a ∷ []) b = refl
 innermost-push (a ∷ c ∷ bs) b = innermost-push (c ∷ bs) b
 
-bound-push : (bs : List Block) (b : Block) → boundIn (bs ++ b ∷ []) ≡ boundIn bs ++ b .variables
+pub bound-push : (bs : List Block) (b : Block) → boundIn (bs ++ b ∷ []) ≡ boundIn bs ++ b .variables
 bound-push bs b = bound-append bs (b ∷ []) ∙ ap (λ vs. boundIn bs ++ vs) (append-nil (b .variables))
 
 module _ (highest : ℕ) (bs : List Block) (b : Block) where

@@ -23,7 +23,7 @@ use Rattle.qbf.specs.Truth.{satisfied, holds}
 use Rattle.qbf.specs.Plain.{bindBefore, single, plain, holdsPlainly}
 use Rattle.qbf.specs.TruthLaws.{TruthLaws}
 use Rattle.qbf.specs.Verdicts.{fewBound, ifFew}
-use Rattle.qbf.proofs.Binding.{all-append}
+use Rattle.qbf.proofs.Members.{all-append}
 use Rattle.qbf.proofs.OneByOne.{formulas-plain}
 use Rattle.qbf.proofs.Truths.{truth-laws}
 
