@@ -1,7 +1,6 @@
 -- What the tests of a block line and of a clause line decide.
 use mathlib.Core.Path.{_≡_, refl, sym, ap, ap₂, subst, _∙_}
-use mathlib.Core.List.{List, [], _∷_, _++_, map}
-use mathlib.Core.Logic.{_⊎_, inl, inr}
+use mathlib.Core.List.{List, [], _∷_, _++_}
 use mathlib.Core.Bool.{Bool, true, false, cond, not, _&&_, _||_}
 use Prim.Native.Nat.{ℕ, _+_, _<_, _≤_}
 use native.Mathlib.Omega.{arith}
@@ -14,23 +13,22 @@ use Rattle.std.specs.declared.option.Option.{Option}
 use Rattle.std.specs.declared.option.Option.the-variants.{Some, None}
 use Rattle.std.specs.declared.result.Result.{Result}
 use Rattle.std.specs.declared.result.Result.the-variants.{Ok, Err}
-use Rattle.std.proofs.shelf.Tests.{cases-bool, leb-true, leb-false, le-leb, lt-leb, ltb-false, and-parts, and-from, eqb-false, or-parts}
+use Rattle.std.proofs.shelf.Tests.{leb-true, leb-false, le-leb, lt-leb, ltb-false, and-parts, and-from, eqb-false, or-parts}
 use Rattle.faults.specs.declared.cause.Cause.the-variants.{OverLimit, BadVariable, BadAlternation, UnboundVariable}
 use Rattle.faults.specs.declared.fault.Fault.{Fault}
 use Rattle.text.specs.Rows.{fieldsOf}
-use Rattle.text.specs.Taken.{andThen, ended}
+use Rattle.text.specs.Taken.{andThen}
 use Rattle.qbf.specs.declared.literal.Quantifier.{Quantifier}
 use Rattle.qbf.specs.declared.literal.Literal.{Literal}
-use Rattle.qbf.specs.declared.literal.Clause.{Clause}
 use Rattle.qbf.specs.declared.numbers.Numbers.{Numbers}
 use Rattle.qbf.specs.declared.counts.Counts.{Counts}
 use Rattle.qbf.specs.declared.prefix.Prefix.{Prefix}
 use Rattle.qbf.specs.declared.gather.Gathered.{Gathered}
 use Rattle.qbf.specs.Limits.{maxVariables, maxBlocks, maxWidth}
 use Rattle.qbf.specs.Syntax.{Block, boundIn, maskOf, clauseOf}
-use Rattle.qbf.specs.WellFormed.{all, elem, distinct, positive, ranged, existential, repeats, closed}
+use Rattle.qbf.specs.WellFormed.{all, elem, distinct, positive, ranged, existential, repeats}
 use Rattle.qbf.specs.Held.{blocksIn}
-use Rattle.qbf.specs.Literals.{literalOf, literalsOf, prepend}
+use Rattle.qbf.specs.Literals.{literalOf, literalsOf}
 use Rattle.qbf.specs.Gathered.{none, widened, nothing, gathered}
 use Rattle.qbf.specs.Bound.{bindAll, Binds}
 use Rattle.qbf.specs.Parse.{fault, variablesOf, clauseLiterals, placeBlock, bindClause}

@@ -1,5 +1,5 @@
 -- What a line's numbers or literals leave in a record of fixed size, one after another.
-use Prim.Native.Nat.{ℕ, _+_, _-_, _^_, max}
+use Prim.Native.Nat.{ℕ, _+_, _-_, max}
 use mathlib.Core.List.{List, [], _∷_}
 use mathlib.Core.Bool.{cond}
 use lib.Dec.{leb}

@@ -1,7 +1,7 @@
 -- The formula that a text means, or the fault with the lowest line and then the lowest number.
 use Prim.Native.Nat.{ℕ, _+_}
 use mathlib.Core.List.{List, [], _∷_, _++_}
-use mathlib.Core.Bool.{Bool, true, false, cond, not, _&&_, _||_}
+use mathlib.Core.Bool.{Bool, cond, not, _&&_, _||_}
 use lib.Dec.{eqb, leb, ltb}
 use lib.ListN.{length, getD}
 use Rattle.std.specs.declared.option.Option.{Option}
@@ -12,7 +12,7 @@ use Rattle.faults.specs.declared.cause.Cause.{Cause}
 use Rattle.faults.specs.declared.cause.Cause.the-variants.{FormulaForm, OverLimit, BadVariable, BadAlternation, UnboundVariable, ClauseCount}
 use Rattle.faults.specs.declared.fault.Fault.{Fault}
 use Rattle.text.specs.Rows.{linesOf, fieldsOf}
-use Rattle.text.specs.Taken.{andThen, takeField, takeNumber, ended}
+use Rattle.text.specs.Taken.{andThen, takeNumber, ended}
 use Rattle.qbf.specs.declared.literal.Quantifier.{Quantifier}
 use Rattle.qbf.specs.declared.literal.Literal.{Literal}
 use Rattle.qbf.specs.declared.literal.Clause.{Clause}

@@ -1,5 +1,5 @@
 ghost use mathlib.Core.Path.{_≡_};
-ghost use Prim.Native.Nat.{ℕ, _≤_};
+ghost use Prim.Native.Nat.{_≤_};
 ghost use Rattle.std.specs.Options.{okOr, mapped};
 ghost use Rattle.text.specs.Left.{fieldsLeft};
 ghost use Rattle.qbf.specs.Literals.{literalsOf, numbersOf};

@@ -1,5 +1,5 @@
 ghost use mathlib.Core.Path.{_≡_};
-ghost use Prim.Native.Nat.{ℕ, _+_, _≤_, _<_};
+ghost use Prim.Native.Nat.{_<_};
 ghost use Rattle.std.specs.Options.{okOr};
 ghost use Rattle.std.specs.Vec.{made};
 ghost use Rattle.text.specs.Left.{fieldsLeft, bytesLeft};

@@ -1,5 +1,5 @@
 -- The steps of a loop that reads digits.
-use mathlib.Core.Path.{_≡_, refl, sym, _∙_, ap}
+use mathlib.Core.Path.{_≡_, sym, _∙_, ap}
 use mathlib.Core.Bool.{Bool, true, false, _&&_}
 use mathlib.Core.List.{List}
 use Prim.Native.Nat.{ℕ, _+_, _*_, _-_, _^_, _<_, _≤_}
@@ -10,7 +10,6 @@ use lib.ListN.{length, drop, getD}
 use Rattle.std.specs.Text.{asciiDigit}
 use Rattle.std.specs.shelf.Text.{allDigits}
 use Rattle.std.proofs.shelf.Lists.{at-drop-more, at-drop-all}
-use Rattle.std.proofs.shelf.Tests.{leb-true, and-parts}
 use Rattle.text.specs.Numeral.{readOn}
 
 -- Nine digits at most: the number so far has eight.
