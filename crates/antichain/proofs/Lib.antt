@@ -1,0 +1,12 @@
+pub mod Canonical
+pub mod Members
+pub mod Kept
+pub mod Sorting
+pub mod Ranks
+pub mod Covering
+pub mod Additions
+pub mod Compacting
+pub mod Placing
+pub mod Grouping
+pub mod Rounds
+pub mod LawfulKinds
