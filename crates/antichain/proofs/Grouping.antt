@@ -16,6 +16,7 @@ use Rattle.std.proofs.shelf.Elements.{all-weaker, kept-by-passes}
 use Rattle.std.proofs.shelf.Edits.{take-paste}
 use Rattle.std.proofs.shelf.Parts.{between-is}
 use Rattle.std.proofs.shelf.Tests.{cases-bool, not-from-false, not-false, cases-lt, cases-order, eq-eqb, ne-eqb, eqb-false, leb-true, leb-false, le-leb, lt-leb, lt-ltb, le-ltb, ltb-true}
+use Rattle.antichain.specs.Limits.{maxLevel}
 use Rattle.antichain.specs.declared.store.AddAnswer.the-variants.{Added, Full}
 use Rattle.antichain.specs.Entries.{Rules}
 use Rattle.antichain.specs.Lookups.{covered, Told}
@@ -101,31 +102,31 @@ module _ {E : Type 0} {v s : E → ℕ} {c b : E → E → Bool} (w : Rules v s 
         ]
       ]
 
-  both : (l : ℕ) (x : E) → ltb (min l 16) (v x) ≡ ltb l (v x)
+  both : (l : ℕ) (x : E) → ltb (min l maxLevel) (v x) ≡ ltb l (v x)
   both l x =
       elim (cases-lt l (v x)) [
-        | inl h ↦ lt-ltb (min l 16) (v x) (omega (arith, w .most x)) ∙ sym (lt-ltb l (v x) h)
-        | inr h ↦ le-ltb (min l 16) (v x) (omega (arith, w .most x)) ∙ sym (le-ltb l (v x) h)
+        | inl h ↦ lt-ltb (min l maxLevel) (v x) (omega (arith, w .most x)) ∙ sym (lt-ltb l (v x) h)
+        | inr h ↦ le-ltb (min l maxLevel) (v x) (omega (arith, w .most x)) ∙ sym (le-ltb l (v x) h)
       ]
 
-  module _ {cap : ℕ} {starts : List ℕ} (t : List E) {xs : List E} (is : xs ≡ take (getD starts 16 0) t) (h : Laid v c b cap starts xs) (fits : cap ≤ length t) where
-    pub ascend : (i j : ℕ) → i ≤ j → j ≤ 16 → getD starts i 0 ≤ getD starts j 0
+  module _ {cap : ℕ} {starts : List ℕ} (t : List E) {xs : List E} (is : xs ≡ take (getD starts maxLevel 0) t) (h : Laid v c b cap starts xs) (fits : cap ≤ length t) where
+    pub ascend : (i j : ℕ) → i ≤ j → j ≤ maxLevel → getD starts i 0 ≤ getD starts j 0
     ascend i j k m = omega (arith, h .counts i (omega arith), h .counts j m, count-mono v i j k xs)
 
-    pub whole : length xs ≡ getD starts 16 0
-    whole = omega (arith, h .counts 16 (omega arith), ap length (upto-top v 16 (w .most) xs))
+    pub whole : length xs ≡ getD starts maxLevel 0
+    whole = omega (arith, h .counts maxLevel (omega arith), ap length (upto-top v maxLevel (w .most) xs))
 
-    first : (i : ℕ) → i ≤ 16 → take (getD starts i 0) t ≡ upto v i xs
+    first : (i : ℕ) → i ≤ maxLevel → take (getD starts i 0) t ≡ upto v i xs
     first i k =
-        sym (take-take (getD starts i 0) (getD starts 16 0) t (ascend i 16 k (omega arith))) ∙ ap (take (getD starts i 0)) (sym is) ∙
+        sym (take-take (getD starts i 0) (getD starts maxLevel 0) t (ascend i maxLevel k (omega arith))) ∙ ap (take (getD starts i 0)) (sym is) ∙
         subst (λ m. take m xs ≡ upto v i xs) (sym (h .counts i k)) (cut v b (before-levels w) i xs (h .ordered) .0)
 
-    last : (i : ℕ) → i ≤ 16 → drop (getD starts i 0) xs ≡ above v i xs
+    last : (i : ℕ) → i ≤ maxLevel → drop (getD starts i 0) xs ≡ above v i xs
     last i k = subst (λ m. drop m xs ≡ above v i xs) (sym (h .counts i k)) (cut v b (before-levels w) i xs (h .ordered) .1)
 
-    module _ (l : ℕ) (low : 1 ≤ l) (high : l ≤ 16) where
-      pub part-within : (getD starts (l - 1) 0 ≤ getD starts l 0) × (getD starts l 0 ≤ getD starts 16 0) × (getD starts 16 0 ≤ length t)
-      part-within = (ascend (l - 1) l (omega arith) high, ascend l 16 high (omega arith), omega (arith, h .fits))
+    module _ (l : ℕ) (low : 1 ≤ l) (high : l ≤ maxLevel) where
+      pub part-within : (getD starts (l - 1) 0 ≤ getD starts l 0) × (getD starts l 0 ≤ getD starts maxLevel 0) × (getD starts maxLevel 0 ≤ length t)
+      part-within = (ascend (l - 1) l (omega arith) high, ascend l maxLevel high (omega arith), omega (arith, h .fits))
 
       -- the entries of a level stand between its start and the next
       pub level : take (getD starts l 0 - getD starts (l - 1) 0) (drop (getD starts (l - 1) 0) t) ≡ kept-by (λ x. eqb (v x) l) xs
@@ -157,18 +158,18 @@ module _ {E : Type 0} {v s : E → ℕ} {c b : E → E → Bool} (w : Rules v s 
       count-same k m =
           count-in (λ x. leb (v x) k) (λ x. not (c e x)) (λ x n. lt-leb (v x) k (omega (arith, w .within e x (not-false (c e x) n)))) xs
 
-      pub gone-within : (k : ℕ) → l ≤ k → k ≤ 16 → (getD starts 16 0 - length (uncovered c e xs) ≤ getD starts k 0) × (getD starts k 0 ≤ getD starts 16 0)
-      gone-within k m n = (omega (arith, count-left k m, h .counts k n, whole), ascend k 16 n (omega arith))
+      pub gone-within : (k : ℕ) → l ≤ k → k ≤ maxLevel → (getD starts maxLevel 0 - length (uncovered c e xs) ≤ getD starts k 0) × (getD starts k 0 ≤ getD starts maxLevel 0)
+      gone-within k m n = (omega (arith, count-left k m, h .counts k n, whole), ascend k maxLevel n (omega arith))
 
       -- what is left of e's level stands together, ahead of all entries of higher levels
       module _ (table : List E) (rest : ℕ) (kept : take rest table ≡ uncovered c e xs) (long : length (uncovered c e xs) ≡ rest) where
         from-left : getD starts (l - 1) 0 ≡ length (upto v (l - 1) (uncovered c e xs))
         from-left = omega (arith, h .counts (l - 1) (omega (arith, w .most e)), count-same (l - 1) (omega (arith, w .least e)))
 
-        to-left : getD starts l 0 - (getD starts 16 0 - rest) ≡ length (upto v l (uncovered c e xs))
+        to-left : getD starts l 0 - (getD starts maxLevel 0 - rest) ≡ length (upto v l (uncovered c e xs))
         to-left = omega (arith, h .counts l (omega (arith, w .most e)), count-left l (omega arith), whole, length-kept (λ x. not (c e x)) xs)
 
-        pub put-within : (getD starts (l - 1) 0 ≤ getD starts l 0 - (getD starts 16 0 - rest)) × (getD starts l 0 - (getD starts 16 0 - rest) ≤ rest)
+        pub put-within : (getD starts (l - 1) 0 ≤ getD starts l 0 - (getD starts maxLevel 0 - rest)) × (getD starts l 0 - (getD starts maxLevel 0 - rest) ≤ rest)
         put-within = (
           omega (arith, from-left, to-left, count-mono v (l - 1) l (omega arith) (uncovered c e xs)),
           omega (arith, to-left, length-kept (λ x. leb (v x) l) (uncovered c e xs)),
@@ -183,11 +184,11 @@ module _ {E : Type 0} {v s : E → ℕ} {c b : E → E → Bool} (w : Rules v s 
             subst (All (λ x. b e x ≡ false)) (sym is)
             (all-weaker _ _ (λ x k. before-by-level w x e (omega (arith, leb-true (v x) (l - 1) k, w .least e)) .1) (upto v (l - 1) zs) (kept-by-passes (λ x. leb (v x) (l - 1)) zs))
 
-        pub put-last : All (λ x. b e x ≡ true) (drop (getD starts l 0 - (getD starts 16 0 - rest)) (take rest table))
+        pub put-last : All (λ x. b e x ≡ true) (drop (getD starts l 0 - (getD starts maxLevel 0 - rest)) (take rest table))
         put-last =
             let zs = uncovered c e xs in
-            let is : drop (getD starts l 0 - (getD starts 16 0 - rest)) (take rest table) ≡ above v l zs =
-            ap (drop (getD starts l 0 - (getD starts 16 0 - rest))) kept ∙ ap (λ n. drop n zs) to-left ∙
+            let is : drop (getD starts l 0 - (getD starts maxLevel 0 - rest)) (take rest table) ≡ above v l zs =
+            ap (drop (getD starts l 0 - (getD starts maxLevel 0 - rest))) kept ∙ ap (λ n. drop n zs) to-left ∙
             cut v b (before-levels w) l zs (ordered-kept b _ xs (h .ordered)) .1 in
             subst (All (λ x. b e x ≡ true)) (sym is)
             (all-weaker _ _ (λ x k. before-by-level w e x (omega (arith, ltb-true l (v x) k)) .0) (above v l zs) (kept-by-passes (λ x. ltb l (v x)) zs))
@@ -204,10 +205,10 @@ module _ {E : Type 0} {v s : E → ℕ} {c b : E → E → Bool} (w : Rules v s 
       pub laid-in : (new : List ℕ)
           → covered c xs e ≡ false → length (uncovered c e xs) < cap
           → ((k : ℕ) → k < l → getD new k 0 ≡ getD starts k 0)
-          → ((k : ℕ) → l ≤ k → k ≤ 16 → getD new k 0 ≡ getD starts k 0 - (getD starts 16 0 - length (uncovered c e xs)) + 1)
+          → ((k : ℕ) → l ≤ k → k ≤ maxLevel → getD new k 0 ≡ getD starts k 0 - (getD starts maxLevel 0 - length (uncovered c e xs)) + 1)
           → Laid v c b cap new (placed b e (uncovered c e xs))
       laid-in new fresh room below over = record {
-        fits = omega (arith, over 16 (omega (arith, w .most e)) (omega arith), whole, length-kept (λ x. not (c e x)) xs);
+        fits = omega (arith, over maxLevel (omega (arith, w .most e)) (omega arith), whole, length-kept (λ x. not (c e x)) xs);
         counts = λ k m. elim (cases-lt k l) [
           | inl n ↦ let d : leb (v e) k ≡ false = lt-leb (v e) k (omega arith) in
               omega (arith, below k n, h .counts k m, count-same k n, simp d at (count-placed b (λ x. leb (v x) k) e (uncovered c e xs)))
@@ -219,20 +220,20 @@ module _ {E : Type 0} {v s : E → ℕ} {c b : E → E → Bool} (w : Rules v s 
       }
 
     -- the entries of levels up to l are gone, and the rest was moved to the front
-    pub moved-down : (l : ℕ) → take (getD starts 16 0 - getD starts (min l 16) 0) (paste t 0 (drop (getD starts (min l 16) 0) t) (getD starts 16 0 - getD starts (min l 16) 0)) ≡ above v l xs
+    pub moved-down : (l : ℕ) → take (getD starts maxLevel 0 - getD starts (min l maxLevel) 0) (paste t 0 (drop (getD starts (min l maxLevel) 0) t) (getD starts maxLevel 0 - getD starts (min l maxLevel) 0)) ≡ above v l xs
     moved-down l =
-        let m = min l 16 in
-        let top : m ≤ 16 = omega arith in
-        let n = getD starts 16 0 - getD starts m 0 in
+        let m = min l maxLevel in
+        let top : m ≤ maxLevel = omega arith in
+        let n = getD starts maxLevel 0 - getD starts m 0 in
         ap (λ j. take j (paste t 0 (drop (getD starts m 0) t) n)) (sym (zero-add n)) ∙ take-paste t 0 (drop (getD starts m 0) t) n (omega arith) (omega (arith, length-drop (getD starts m 0) t, h .fits)) ∙
-        between-is t (getD starts m 0) (getD starts 16 0) ∙ ap (drop (getD starts m 0)) (sym is) ∙ last m top ∙
+        between-is t (getD starts m 0) (getD starts maxLevel 0) ∙ ap (drop (getD starts m 0)) (sym is) ∙ last m top ∙
         kept-alike (λ x. ltb m (v x)) (λ x. ltb l (v x)) (λ x. both l x) xs
 
-    pub laid-above : (l : ℕ) (new : List ℕ) → ((k : ℕ) → k ≤ 16 → getD new k 0 ≡ getD starts k 0 - getD starts (min l 16) 0) → Laid v c b cap new (above v l xs)
+    pub laid-above : (l : ℕ) (new : List ℕ) → ((k : ℕ) → k ≤ maxLevel → getD new k 0 ≡ getD starts k 0 - getD starts (min l maxLevel) 0) → Laid v c b cap new (above v l xs)
     laid-above l new less = record {
-      fits = omega (arith, less 16 (omega arith), h .fits);
+      fits = omega (arith, less maxLevel (omega arith), h .fits);
       counts = λ k m.
-          less k m ∙ omega (arith, h .counts k m, h .counts (min l 16) (omega arith), count-above v (min l 16) k xs, ap (λ z. length (upto v k z)) (kept-alike (λ x. ltb (min l 16) (v x)) (λ x. ltb l (v x)) (λ x. both l x) xs));
+          less k m ∙ omega (arith, h .counts k m, h .counts (min l maxLevel) (omega arith), count-above v (min l maxLevel) k xs, ap (λ z. length (upto v k z)) (kept-alike (λ x. ltb (min l maxLevel) (v x)) (λ x. ltb l (v x)) (λ x. both l x) xs));
       ordered = ordered-kept b _ xs (h .ordered);
       apart = apart-kept c _ xs (h .apart);
     }

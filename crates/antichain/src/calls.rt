@@ -52,7 +52,7 @@ impl<E> Round<E> {
     }
 }
 
-// Makes one call.
+// Makes one call, on a store that is sound as its own calls ask.
 pub fn apply<E: Entry, S: ListedStore<E>>(store: &mut S, call: &Call<E>) -> Answer<E>
     requires { ⌜ S·Store .sound (now store) ⌝ }
     ensures sound { λ _. ⌜ S·Store .sound (now (store .exit)) ⌝ }

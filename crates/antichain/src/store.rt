@@ -66,7 +66,7 @@ pub trait ListedStore<E: Entry>: Store<E> {
         ensures { λ r. ⌜ r ≡ at (Self·Store .held (now (self .entry))) k ⌝ };
 }
 
-// Whether some entry covers e.
+// Whether some entry covers e. What makes the store sound is said at the trait.
 pub fn is_covered<E: Entry, S: Store<E>>(store: &S, e: &E) -> bool
     requires { ⌜ S·Store .sound (now store) ⌝ }
     ensures { λ r. ⌜ r ≡ covered (E·Entry .covers) (S·Store .held (now (store .entry))) (now (e .entry)) ⌝ }

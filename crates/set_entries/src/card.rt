@@ -1,6 +1,7 @@
 ghost use mathlib.Core.Path.{_≡_};
 ghost use Prim.Native.Nat.{_≤_, min, max};
 ghost use Rattle.antichain.specs.Limits.{maxLevel};
+use antichain::limits::MAX_LEVEL;
 use std::fmt;
 
 // A set of numbers below 128, as a number with a bit for each, at a level from 1 to 16.
@@ -22,7 +23,7 @@ impl Card {
     {
         Card {
             set,
-            level: level.clamp(1, 16),
+            level: level.clamp(1, MAX_LEVEL as u8),
             payload,
         }
     }

@@ -3,6 +3,7 @@ mod print;
 mod scenes;
 
 use antichain::calls::Round;
+use antichain::limits::MAX_ENTRIES;
 use print::side_by_side;
 use scenes::all_leave;
 use scenes::drop_ends;
@@ -24,7 +25,7 @@ use std::error::AnyError;
 use std::io;
 
 // Four more places than a store may use.
-const LONG: usize = 65540;
+const LONG: usize = MAX_ENTRIES + 4;
 
 // Runs rounds of the first kind on tables of a few places, at most four.
 fn few_places(

@@ -4,7 +4,7 @@ use Prim.Native.Nat.{ℕ, _≤_, _<_, _+_, _-_, min}
 use native.Mathlib.Omega.{arith}
 use lib.ListN.{length, getD, take}
 use Rattle.std.proofs.shelf.Lists.{length-take-le}
-use Rattle.antichain.specs.Limits.{maxEntries, capacityOf}
+use Rattle.antichain.specs.Limits.{maxLevel, maxEntries, capacityOf}
 use Rattle.antichain.specs.Lookups.{covered}
 use Rattle.antichain.specs.Adding.{uncovered, placed}
 use Rattle.antichain.specs.Layouts.{Ordered}
@@ -16,7 +16,7 @@ use Rattle.antichain.proofs.levels.LevelsStore.add.Needs as need
 pub returns-then-is-some : need.returns-then-is-some
 returns-then-is-some g c =
     let s = c .args .self .now in
-    let h : covered (g .E·Entry .covers) (take (getD (s .starts) 16 0) (s .table .now)) (c .args .e) ≡ true =
+    let h : covered (g .E·Entry .covers) (take (getD (s .starts) maxLevel 0) (s .table .now)) (c .args .e) ≡ true =
     told-some (g .E·Entry .covers) _ (c .args .e) (c .cover .result) (c .cover .ensures) (sym (c .if-is-some .ensures tt)) in
     record { sound = c .pre; answer = simp h; held = simp h; capacity = refl }
 
@@ -33,12 +33,12 @@ pub returns-then-rest-capacity-of : need.returns-then-rest-capacity-of
 returns-then-rest-capacity-of g c =
     let s = c .args .self .now in
     let q = c .keep-uncovered-rest in
-    let n : getD (s .starts) 16 0 ≡ q .result = omega (arith, c .pre .fits, q .ensures .fewer, q .kept .table, c .capacity-of .ensures, c .if-rest-capacity-of .taken) in
+    let n : getD (s .starts) maxLevel 0 ≡ q .result = omega (arith, c .pre .fits, q .ensures .fewer, q .kept .table, c .capacity-of .ensures, c .if-rest-capacity-of .taken) in
     let long : length (take (q .result) (q .last .table)) ≡ q .result = length-take-le (q .result) (q .last .table) (omega (arith, c .capacity-of .ensures, c .if-rest-capacity-of .taken)) in
     let new = told-none (g .E·Entry .covers) _ (c .args .e) (c .cover .result) (c .cover .ensures) (sym (c .if-is-some .ensures tt)) in
     let f = full (g .E·Entry·met .rules) (s .table .now) refl (c .pre) (omega arith) (c .args .e) (c .level-l .result) (c .level-l .ensures) new
     (omega (arith, long, ap length (q .ensures .kept), q .kept .table, c .capacity-of .ensures, c .if-rest-capacity-of .taken)) in
-    let same : take (getD (s .starts) 16 0) (q .last .table) ≡ take (getD (s .starts) 16 0) (s .table .now) = ap (λ k. take k (q .last .table)) n ∙ q .ensures .kept ∙ f .0 in
+    let same : take (getD (s .starts) maxLevel 0) (q .last .table) ≡ take (getD (s .starts) maxLevel 0) (s .table .now) = ap (λ k. take k (q .last .table)) n ∙ q .ensures .kept ∙ f .0 in
     let size : capacityOf (q .last .table) ≡ capacityOf (s .table .now) = ap (λ k. min k maxEntries) (q .kept .table) in
     record { sound = simp (size, same) (c .pre); answer = f .1; held = same ∙ f .2; capacity = size }
 
@@ -78,17 +78,17 @@ pub returns : need.returns
 returns g c =
     let s = c .args .self .now in
     let q = c .keep-uncovered-rest in
-    let xs = take (getD (s .starts) 16 0) (s .table .now) in
+    let xs = take (getD (s .starts) maxLevel 0) (s .table .now) in
     let zs = uncovered (g .E·Entry .covers) (c .args .e) xs in
     let new = told-none (g .E·Entry .covers) _ (c .args .e) (c .cover .result) (c .cover .ensures) (sym (c .if-is-some .ensures tt)) in
     let long : length zs ≡ q .result = sym (ap length (q .ensures .kept)) ∙ length-take-le (q .result) (q .last .table) (omega (arith, c .pre .fits, q .ensures .fewer, q .kept .table)) in
     let fits : length zs < capacityOf (s .table .now) = omega (arith, long, c .pre .fits, q .ensures .fewer, q .kept .table, c .capacity-of .ensures, c .if-rest-capacity-of .left) in
     let r = room (g .E·Entry·met .rules) (s .table .now) refl (c .pre) (omega arith) (c .args .e) (c .level-l .result) (c .level-l .ensures) new fits in
-    let over : (k : ℕ) → c .level-l .result ≤ k → k ≤ 16 → getD (c .one-more .last .starts) k 0 ≡ getD (s .starts) k 0 - (getD (s .starts) 16 0 - length zs) + 1 =
+    let over : (k : ℕ) → c .level-l .result ≤ k → k ≤ maxLevel → getD (c .one-more .last .starts) k 0 ≡ getD (s .starts) k 0 - (getD (s .starts) maxLevel 0 - length zs) + 1 =
     λ k h m. omega (arith, c .one-more .ensures .above k h m, long) in
     let laid = laid-in (g .E·Entry·met .rules) (s .table .now) refl (c .pre) (omega arith) (c .args .e) (c .level-l .result) (c .level-l .ensures) (c .one-more .last .starts) new fits (c .one-more .ensures .below) over in
-    let n : getD (c .one-more .last .starts) 16 0 ≡ q .result + 1 = omega (arith, over 16 (omega (arith, g .E·Entry·met .rules .most (c .args .e), c .level-l .ensures)) (omega arith), long, q .ensures .fewer) in
-    let is : take (getD (c .one-more .last .starts) 16 0) (c .put-in-order .last .table) ≡ placed (g .E·Entry .before) (c .args .e) zs =
+    let n : getD (c .one-more .last .starts) maxLevel 0 ≡ q .result + 1 = omega (arith, over maxLevel (omega (arith, g .E·Entry·met .rules .most (c .args .e), c .level-l .ensures)) (omega arith), long, q .ensures .fewer) in
+    let is : take (getD (c .one-more .last .starts) maxLevel 0) (c .put-in-order .last .table) ≡ placed (g .E·Entry .before) (c .args .e) zs =
     ap (λ k. take k (c .put-in-order .last .table)) n ∙ c .put-in-order .ensures ∙ ap (placed (g .E·Entry .before) (c .args .e)) (q .ensures .kept) in
     let size : capacityOf (c .put-in-order .last .table) ≡ capacityOf (s .table .now) = ap (λ k. min k maxEntries) (c .put-in-order .kept .table ∙ q .kept .table) in
     record { sound = simp (size, is) laid; answer = r .0; held = is ∙ r .1; capacity = size }
