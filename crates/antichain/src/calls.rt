@@ -1,5 +1,6 @@
 // Calls of a store as values, and the law over runs.
 ghost use mathlib.Core.Path.{_≡_};
+ghost use Rattle.std.specs.declared.option.Option.the-variants.{None};
 ghost use mathlib.Core.List.{List, []};
 ghost use Prim.Native.Nat.{ℕ};
 ghost use Rattle.antichain.specs.Antichain.{Antichain};
@@ -41,8 +42,10 @@ pub struct Round<E> {
 }
 
 impl<E> Round<E> {
+    // A call that is not made yet.
     pub fn new(call: Call<E>) -> Round<E>
-        ensures { λ r. ⌜ r .call ≡ call ⌝ }
+        ensures call { λ r. ⌜ r .call ≡ call ⌝ }
+        ensures unanswered { λ r. ⌜ (r .first ≡ None) × (r .second ≡ None) ⌝ }
     {
         Round {
             call,
