@@ -52,7 +52,7 @@ fn step<S: ListedStore<Outer>, R: Print + Eprint + Clock>(
 }
 
 // Takes a store to 100, 1,000, 10,000 and 65,536 entries.
-pub fn measure<S: ListedStore<Outer>, R: Print + Eprint + Clock>(
+pub(crate) fn measure<S: ListedStore<Outer>, R: Print + Eprint + Clock>(
     rt: &R,
     name: &str,
     store: &mut S,

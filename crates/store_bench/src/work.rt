@@ -20,7 +20,7 @@ fn add<S: ListedStore<Outer>>(store: &mut S, card: Card) -> u32
 }
 
 // Adds entries that cover no other.
-pub fn fill<S: ListedStore<Outer>>(store: &mut S, from: u16, to: u16) -> u32
+pub(crate) fn fill<S: ListedStore<Outer>>(store: &mut S, from: u16, to: u16) -> u32
     requires { ⌜ S·Store .sound (now store) ⌝ }
     ensures { λ _. ⌜ S·Store .sound (now (store .exit)) ⌝ }
 {
@@ -32,7 +32,7 @@ pub fn fill<S: ListedStore<Outer>>(store: &mut S, from: u16, to: u16) -> u32
 }
 
 // Adds entries that each cover one.
-pub fn replace<S: ListedStore<Outer>>(store: &mut S, from: u16, to: u16) -> u32
+pub(crate) fn replace<S: ListedStore<Outer>>(store: &mut S, from: u16, to: u16) -> u32
     requires { ⌜ S·Store .sound (now store) ⌝ }
     ensures { λ _. ⌜ S·Store .sound (now (store .exit)) ⌝ }
 {
@@ -45,7 +45,7 @@ pub fn replace<S: ListedStore<Outer>>(store: &mut S, from: u16, to: u16) -> u32
 }
 
 // Looks up sets of entries, with an extra member or without.
-pub fn look_up<S: ListedStore<Outer>>(store: &S, from: u16, to: u16, extra: u128) -> u32
+pub(crate) fn look_up<S: ListedStore<Outer>>(store: &S, from: u16, to: u16, extra: u128) -> u32
     requires { ⌜ S·Store .sound (now store) ⌝ }
 {
     let mut told = 0;

@@ -38,7 +38,7 @@ fn show_from<E: Entry + fmt::Debug>(
 }
 
 // Runs the rounds on stores over the two tables, and prints each from the one at `from` on, with both answers.
-pub fn side_by_side<E: Entry + fmt::Debug>(
+pub(crate) fn side_by_side<E: Entry + fmt::Debug>(
     rt: &impl Print,
     title: &str,
     here: &mut [E],

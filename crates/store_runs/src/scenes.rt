@@ -20,7 +20,7 @@ fn nth(k: usize) -> Round<Outer> {
     Round::new(Call::Nth(k))
 }
 
-pub fn several_levels() -> [Round<Outer>; 22] {
+pub(crate) fn several_levels() -> [Round<Outer>; 22] {
     [
         nth(0),
         add(3, 0b0110, 0),
@@ -47,7 +47,7 @@ pub fn several_levels() -> [Round<Outer>; 22] {
     ]
 }
 
-pub fn no_place() -> [Round<Outer>; 7] {
+pub(crate) fn no_place() -> [Round<Outer>; 7] {
     [
         cover(1, 0),
         add(1, 0, 0),
@@ -59,7 +59,7 @@ pub fn no_place() -> [Round<Outer>; 7] {
     ]
 }
 
-pub fn one_place() -> [Round<Outer>; 8] {
+pub(crate) fn one_place() -> [Round<Outer>; 8] {
     [
         add(2, 0b01, 0),
         add(2, 0b10, 0),
@@ -72,7 +72,7 @@ pub fn one_place() -> [Round<Outer>; 8] {
     ]
 }
 
-pub fn all_leave() -> [Round<Outer>; 8] {
+pub(crate) fn all_leave() -> [Round<Outer>; 8] {
     [
         add(5, 0b001, 0),
         add(5, 0b100, 0),
@@ -85,7 +85,7 @@ pub fn all_leave() -> [Round<Outer>; 8] {
     ]
 }
 
-pub fn other_payload() -> [Round<Outer>; 6] {
+pub(crate) fn other_payload() -> [Round<Outer>; 6] {
     [
         add(2, 0b101, 1),
         add(2, 0b101, 2),
@@ -96,7 +96,7 @@ pub fn other_payload() -> [Round<Outer>; 6] {
     ]
 }
 
-pub fn drop_ends() -> [Round<Outer>; 11] {
+pub(crate) fn drop_ends() -> [Round<Outer>; 11] {
     [
         add(1, 0b1, 0),
         add(16, 0b1, 0),
@@ -116,7 +116,7 @@ fn add_inner(level: u8, set: u128, payload: u16) -> Round<Inner> {
     Round::new(Call::Add(Inner(Card::new(level, set, payload))))
 }
 
-pub fn other_kind() -> [Round<Inner>; 8] {
+pub(crate) fn other_kind() -> [Round<Inner>; 8] {
     [
         add_inner(7, 0b0111, 0),
         add_inner(7, 0b1110, 0),
@@ -130,7 +130,7 @@ pub fn other_kind() -> [Round<Inner>; 8] {
 }
 
 // More additions than a store may hold, of entries that do not cover each other, and one that covers a whole level.
-pub fn long_table(heap: Global) -> Result<Vec<Round<Outer>>, AnyError> {
+pub(crate) fn long_table(heap: Global) -> Result<Vec<Round<Outer>>, AnyError> {
     let mut rounds = Vec::new(heap);
     for i in 0..=65535 {
         rounds.push(Round::new(Call::Add(Outer(apart(i)))))?;
