@@ -10,7 +10,7 @@ use Rattle.text.specs.Rows.{onto}
 use Rattle.text.specs.Layout.{Field}
 use Rattle.text.proofs.Decimal.{decimal_no_minus, numeral-decimal}
 use Rattle.truth.specs.WellFormed.{all}
-use Rattle.truth.proofs.Members.{All-append as all_pass}
+use Rattle.truth.proofs.Members.{all_append as all_pass}
 use Rattle.entries.specs.declared.entry.Reply.TheVariants.{Value}
 use Rattle.certificate_text.specs.SetField.{is_dash, pieces, numerals, clauses_of, ascending, set_of, take_set}
 use Rattle.certificate_text.specs.ReplyField.{is_bit, reply_formed, binary, reply_of}

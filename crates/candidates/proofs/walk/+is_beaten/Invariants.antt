@@ -1,5 +1,5 @@
 use Rattle.std.proofs.Common.{length}
 use Rattle.candidates.proofs.walk.+is_beaten.Given as goal
 
-abbrev pub decreases-is-beaten : goal.decreases-is-beaten
-decreases-is-beaten l = length l.choices.now
+abbrev pub decreases-is_beaten : goal.decreases-is_beaten
+decreases-is_beaten l = length l.choices.now

@@ -6,16 +6,16 @@ use Rattle.certificate.proofs.Sound.{accepted_true}
 use Rattle.certificate.proofs.Faulting.{no_entry, failing_stop, failing_more, failing_end, refused_so, accepted_so, root_reached, supported-same}
 use Rattle.certificate.proofs.check.check.Goals as goal
 
-pub returns-then-not-is-supported : goal.returns-then-not-is-supported
-returns-then-not-is-supported c =
+pub returns-then-not-is_supported : goal.returns-then-not-is_supported
+returns-then-not-is_supported c =
     let f = qbf_of c.args.formula.now in
     let v = is_true c.args.verdict in
     let es = c.args.entries.now in
     let i = c.loop-i.i in
-    let root = root_reached f v _ es c.of-index.ensures _ c.root.ensures c.if-not-is-reached.ensures in
-    let fails = supported-same f v _ es c.of-index.ensures _ (get_or es i no_entry) c.if-not-is-supported.ensures in
+    let root = root_reached f v _ es c.of-index.ensures _ c.root.ensures c.if-not-is_reached.ensures in
+    let fails = supported-same f v _ es c.of-index.ensures _ (get_or es i no_entry) c.if-not-is_supported.ensures in
     let stop = failing_stop (supported v f es) es i (i + 4) _ c.loop-i.invariant no_entry c.loop-i-test.true fails in
-    let so = refused_so f v es root _ (ap Some c.new-then-not-is-supported.ensures ∙ stop) in
+    let so = refused_so f v es root _ (ap Some c.new-then-not-is_supported.ensures ∙ stop) in
     record { fault = so.0; accepts = so.1; keeps = tt; truth = tt }
 
 pub loop-i-preserved : goal.loop-i-preserved
@@ -25,16 +25,16 @@ loop-i-preserved c =
     let es = c.args.entries.now in
     let i = c.loop-i.i in
     failing_more (supported v f es) es i (i + 4) _ c.loop-i.invariant no_entry _ (omega arith) c.loop-i-test.true
-    (supported-same f v _ es c.of-index.ensures _ (get_or es i no_entry) c.if-not-is-supported.ensures)
+    (supported-same f v _ es c.of-index.ensures _ (get_or es i no_entry) c.if-not-is_supported.ensures)
 
-pub invariant-of-result : goal.invariant-of-result
-invariant-of-result c =
+pub invariant_of-result : goal.invariant_of-result
+invariant_of-result c =
     let f = qbf_of c.args.formula.now in
     let v = is_true c.args.verdict in
     let es = c.args.entries.now in
     let i = c.loop-i.i in
-    let root = root_reached f v _ es c.of-index.ensures _ c.root.ensures c.if-not-is-reached.ensures in
-    ((accepted_so f v es root (failing_end _ es i (i + 4) _ c.loop-i.invariant c.loop-i-test.false)).1, tt)
+    let root = root_reached f v _ es c.of-index.ensures _ c.root.ensures c.if-not-is_reached.ensures in
+    record { ok = (accepted_so f v es root (failing_end _ es i (i + 4) _ c.loop-i.invariant c.loop-i-test.false)).1 }
 
 pub returns : goal.returns
 returns c =
@@ -42,6 +42,6 @@ returns c =
     let v = is_true c.args.verdict in
     let es = c.args.entries.now in
     let i = c.loop-i.i in
-    let root = root_reached f v _ es c.of-index.ensures _ c.root.ensures c.if-not-is-reached.ensures in
+    let root = root_reached f v _ es c.of-index.ensures _ c.root.ensures c.if-not-is_reached.ensures in
     let so = accepted_so f v es root (failing_end _ es i (i + 4) _ c.loop-i.invariant c.loop-i-test.false) in
     record { fault = so.0; accepts = sym so.1; keeps = (refl, refl, refl); truth = accepted_true f v es so.1 }

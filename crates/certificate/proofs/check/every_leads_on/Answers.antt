@@ -8,18 +8,18 @@ use Rattle.certificate.proofs.check.every_leads_on.Goals as goal
 pub loop-candidate-init : goal.loop-candidate-init
 loop-candidate-init c = tried_none (is_true c.args.verdict) _ _ c.args.level c.args.set _ c.requires.due
 
-pub overflow-add-level : goal.overflow-add-level
-overflow-add-level c =
+pub overflow_add-level : goal.overflow_add-level
+overflow_add-level c =
     let f = qbf_of c.args.formula.now in
     omega (arith, few_levels c.args.formula.now, candidate_level f c.args.level c.args.set _ c.requires.low _ c.in-Some.ensures)
 
-pub returns-then-not-is-reached : goal.returns-then-not-is-reached
-returns-then-not-is-reached c =
+pub returns-then-not-is_reached : goal.returns-then-not-is_reached
+returns-then-not-is_reached c =
     let f = qbf_of c.args.formula.now in
-    tried_stop (is_true c.args.verdict) f _ c.args.level c.args.set _ c.requires.low _ c.loop-candidate.invariant _ c.in-Some.ensures c.if-not-is-reached.ensures
+    tried_stop (is_true c.args.verdict) f _ c.args.level c.args.set _ c.requires.low _ c.loop-candidate.invariant _ c.in-Some.ensures c.if-not-is_reached.ensures
 
-pub overflow-add-from : goal.overflow-add-from
-overflow-add-from c =
+pub overflow_add-from : goal.overflow_add-from
+overflow_add-from c =
     let f = qbf_of c.args.formula.now in
     omega (arith, candidate_small f c.args.level c.args.set _ c.requires.low _ c.in-Some.ensures c.args.formula.now.widths)
 
@@ -32,9 +32,9 @@ loop-candidate-smaller c =
 pub loop-candidate-preserved : goal.loop-candidate-preserved
 loop-candidate-preserved c =
     let f = qbf_of c.args.formula.now in
-    tried_more (is_true c.args.verdict) f _ c.args.level c.args.set _ c.requires.low _ c.loop-candidate.invariant _ c.in-Some.ensures c.if-not-is-reached.ensures
+    tried_more (is_true c.args.verdict) f _ c.args.level c.args.set _ c.requires.low _ c.loop-candidate.invariant _ c.in-Some.ensures c.if-not-is_reached.ensures
 
 pub returns : goal.returns
 returns c =
     let f = qbf_of c.args.formula.now in
-    tried_all (is_true c.args.verdict) f _ c.args.level c.args.set _ c.requires.low _ c.loop-candidate.invariant c.in-default.ensures
+    tried_all (is_true c.args.verdict) f _ c.args.level c.args.set _ c.requires.low _ c.loop-candidate.invariant c.in_default.ensures

@@ -5,11 +5,11 @@ use Rattle.certificate.proofs.check.is_reached.Goals as goal
 
 pub returns-then-level-blocks : goal.returns-then-level-blocks
 returns-then-level-blocks c =
-    c.is-reached-at-end.ensures ∙ reached_past (is_true c.args.verdict) _ _ c.args.level c.args.set (omega arith)
+    c.is_reached_at_end.ensures ∙ reached_past (is_true c.args.verdict) _ _ c.args.level c.args.set (omega arith)
 
 pub covering-requires : goal.covering-requires
 covering-requires c = omega (arith, few_levels c.args.formula.now)
 
 pub returns : goal.returns
 returns c =
-    c.is-some.ensures ∙ reached_within (is_true c.args.verdict) _ _ c.args.level c.args.set c.requires (omega arith) _ c.covering.ensures
+    c.is_some.ensures ∙ reached_within (is_true c.args.verdict) _ _ c.args.level c.args.set c.requires (omega arith) _ c.covering.ensures

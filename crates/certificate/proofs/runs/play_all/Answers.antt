@@ -11,9 +11,9 @@ returns-in-Over c =
     let run = go_ended c.args.game _ _ _ c.loop-turn.invariant _ _ _ c.in-Over.is c.left.ensures.set c.played-played.ensures in
     record { played = run; plays = c.begin-turn.ensures.plays; right = c.begin-turn.ensures.plays.right _ _ run }
 
-pub returns-in-default : goal.returns-in-default
-returns-in-default c =
-    let run = go_waits c.args.game _ _ _ c.loop-turn.invariant _ c.in-Other.is (nil_from_length _ c.in-default.ensures.cases) in
+pub returns-in_default : goal.returns-in_default
+returns-in_default c =
+    let run = go_waits c.args.game _ _ _ c.loop-turn.invariant _ c.in-Other.is (nil_from_length _ c.in_default.ensures.cases) in
     record { played = run; plays = c.begin-turn.ensures.plays; right = c.begin-turn.ensures.plays.right _ _ run }
 
 pub loop-turn-smaller-in-Holder : goal.loop-turn-smaller-in-Holder

@@ -6,9 +6,9 @@ use Rattle.certificate_text.proofs.entry_text.put_entry.Goals as goal
 pub returns : goal.returns
 returns c =
     let entry = c.args.entry in
-    let set = puts_same c.put-set-gap.ensures.puts (ap (λ (n : ℕ). set_text n entry.set) c.clauses.ensures) in
-    let reply = puts_same c.put-reply-end.ensures.puts (ap (λ (n : ℕ). reply_text n entry.reply) c.width-at-width.ensures.value) in
+    let set = puts_same c.put_set-gap.ensures.puts (ap (λ (n : ℕ). set_text n entry.set) c.clauses.ensures) in
+    let reply = puts_same c.put_reply-end.ensures.puts (ap (λ (n : ℕ). reply_text n entry.reply) c.width_at-width.ensures.value) in
     record {
-      puts = fields_put c.put-number-space.ensures.puts c.put-byte-set.ensures set c.put-byte-reply.ensures reply c.put-byte.ensures;
+      puts = fields_put c.put_number-space.ensures.puts c.put_byte-set.ensures set c.put_byte-reply.ensures reply c.put_byte.ensures;
       most = omega arith;
     }

@@ -11,5 +11,5 @@ returns t c =
     let h = c.if-n-lt10.false in
     let more = length_more c.args.n h (omega arith) in
     let most = length_most c.args.n (omega arith) in
-    let whole = put_digit c.args.at _ c.args.n c.args.out.now h (omega arith) c.put-number-next.ensures.puts.value in
+    let whole = put_digit c.args.at _ c.args.n c.args.out.now h (omega arith) c.put_number-next.ensures.puts.value in
     search rules

@@ -7,7 +7,7 @@ use Rattle.certificate_text.proofs.read.read.Goals as goal
 
 pub returns : goal.returns
 returns c =
-    let ends = c.read-lines.ensures in
+    let ends = c.read_lines.ensures in
     record {
       ending = ends.ending;
       table = ends.table;

@@ -2,14 +2,14 @@ use Rattle.std.proofs.Common.{arith, rules}
 use Rattle.certificate_text.proofs.ReplySteps.{bits_parts, value_more, value_end, value_below, value_grown}
 use Rattle.certificate_text.proofs.reply_field.value_of.Goals as goal
 
-pub overflow-mul-n : goal.overflow-mul-n
-overflow-mul-n c = let p = value_below _ _ c.loop-b.invariant.2 (omega arith) in search rules
+pub overflow_mul-n : goal.overflow_mul-n
+overflow_mul-n c = let p = value_below _ _ c.loop-b.invariant.2 (omega arith) in search rules
 
-pub overflow-sub-n : goal.overflow-sub-n
-overflow-sub-n c = let p = bits_parts _ _ c.loop-b-test.true c.loop-b.invariant.1 in omega arith
+pub overflow_sub-n : goal.overflow_sub-n
+overflow_sub-n c = let p = bits_parts _ _ c.loop-b-test.true c.loop-b.invariant.1 in omega arith
 
-pub overflow-add-n : goal.overflow-add-n
-overflow-add-n c =
+pub overflow_add-n : goal.overflow_add-n
+overflow_add-n c =
     let p = value_below _ _ c.loop-b.invariant.2 (omega arith) in
     let d = bits_parts _ _ c.loop-b-test.true c.loop-b.invariant.1 in
     search rules

@@ -11,10 +11,10 @@ returns-then-v-eq0 c =
       | then-v-eq0-via-else-v-eq0+then-v-highest w ↦ search (rules, bind_outside, inr)
     ]
 
-pub returns-then-not-is-free : goal.returns-then-not-is-free
-returns-then-not-is-free c =
+pub returns-then-not-is_free : goal.returns-then-not-is_free
+returns-then-not-is_free c =
     let one = c.mask-bit.ensures.one (search rules) (search rules) in
-    let again : eqb (bit_and c.loop-v.all c.mask-bit.result) 0 ≡ false = sym c.is-free.ensures ∙ c.if-not-is-free.true in
+    let again : eqb (bit_and c.loop-v.all c.mask-bit.result) 0 ≡ false = sym c.is_free.ensures ∙ c.if-not-is_free.true in
     search (rules, bind_again)
 
 pub loop-v-preserved : goal.loop-v-preserved

@@ -6,10 +6,10 @@ use Rattle.formula_text.proofs.clause_line.read_clause.Goals as goal
 pub returns-then-literals-counts : goal.returns-then-literals-counts
 returns-then-literals-counts c =
     ap Err c.new-then-literals-counts.ensures
-    ∙ clause_high _ c.args.counts (blocks_in c.args.prefix.now) c.args.line.now _ _ c.in-ok-literals.ensures c.if-literals-counts.true
+    ∙ clause_high _ c.args.counts (blocks_in c.args.prefix.now) c.args.line.now _ _ c.in_ok-literals.ensures c.if-literals-counts.true
 
-pub returns-then-not-is-closed : goal.returns-then-not-is-closed
-returns-then-not-is-closed c = search (rules, clause_unbound)
+pub returns-then-not-is_closed : goal.returns-then-not-is_closed
+returns-then-not-is_closed c = search (rules, clause_unbound)
 
 pub returns : goal.returns
 returns c = search (rules, clause_closed)

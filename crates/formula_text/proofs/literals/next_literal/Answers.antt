@@ -4,6 +4,6 @@ use Rattle.formula_text.proofs.literals.next_literal.Goals as goal
 
 pub returns : goal.returns
 returns c =
-    let field = c.in-ok-field.ensures.cases in
-    let more = literals_more _ _ _ _ _ field.0 c.in-ok-next.ensures c.if-next-eq0.false in
+    let field = c.in_ok-field.ensures.cases in
+    let more = literals_more _ _ _ _ _ field.0 c.in_ok-next.ensures c.if-next-eq0.false in
     record { yields = (more, omega arith); shorter = search rules }

@@ -6,9 +6,9 @@ pub returns : goal.returns
 returns c =
     let text = c.args.text.now in
     record {
-      value = c.read-lines.ensures;
+      value = c.read_lines.ensures;
       exact = record {
-        accepted = λ f e. accepted_form text f (sym c.read-lines.ensures ∙ e);
-        complete = λ f t. c.read-lines.ensures ∙ form_accepted text f t;
+        accepted = λ f e. accepted_form text f (sym c.read_lines.ensures ∙ e);
+        complete = λ f t. c.read_lines.ensures ∙ form_accepted text f t;
       };
     }

@@ -2,8 +2,8 @@ use Rattle.std.proofs.Common.{rules}
 use Rattle.qbf.proofs.Refereeing.{bound_few, count_more, count_end}
 use Rattle.qbf.proofs.referee.count_bound.Goals as goal
 
-pub overflow-add-count : goal.overflow-add-count
-overflow-add-count c =
+pub overflow_add-count : goal.overflow_add-count
+overflow_add-count c =
     let few = bound_few c.args.blocks.now in
     let more = count_more c.args.blocks.now c.loop-block.block-index c.loop-block.count _ c.loop-block.invariant c.loop-block-test.true c.block-item.result c.block-item.is in
     search (rules, few, more)

@@ -7,13 +7,13 @@ use Rattle.truth.specs.Verdicts.{is_true}
 use Rattle.qbf.proofs.Refereeing.{bound_of, all_ranged_up, refereed_none, refereed_some}
 use Rattle.qbf.proofs.referee.decide.Goals as goal
 
-pub returns-then-not-binds-few : goal.returns-then-not-binds-few
-returns-then-not-binds-few c =
-    let r = refereed_none c.args.formula.now c.list-blocks.result.now c.list-blocks.ensures (sym c.if-not-binds-few.ensures) in
+pub returns-then-not-binds_few : goal.returns-then-not-binds_few
+returns-then-not-binds_few c =
+    let r = refereed_none c.args.formula.now c.list-blocks.result.now c.list-blocks.ensures (sym c.if-not-binds_few.ensures) in
     record { plainly = r.plainly; blocks = r.blocks; laws = r.laws }
 
-pub decide-from-so-requires : goal.decide-from-so-requires
-decide-from-so-requires c =
+pub decide_from-so-requires : goal.decide_from-so-requires
+decide_from-so-requires c =
     let f = c.args.formula.now in
     record {
       outer = search rules;
@@ -22,5 +22,5 @@ decide-from-so-requires c =
 
 pub returns : goal.returns
 returns c =
-    let r = refereed_some c.args.formula.now c.list-blocks.result.now c.list-blocks.ensures (sym c.if-not-binds-few.ensures) c.list-clauses.result.now c.list-clauses.ensures (is_true c.of.result) (c.of.ensures ∙ c.decide-from-so.ensures) in
+    let r = refereed_some c.args.formula.now c.list-blocks.result.now c.list-blocks.ensures (sym c.if-not-binds_few.ensures) c.list-clauses.result.now c.list-clauses.ensures (is_true c.of.result) (c.of.ensures ∙ c.decide_from-so.ensures) in
     record { plainly = r.plainly; blocks = r.blocks; laws = r.laws }

@@ -5,18 +5,18 @@ use Rattle.antichain.proofs.levels.Levels.of_level.Goals as goal
 pub returns : goal.returns
 returns g c = level g.met.E.Entry.rules c.args.self.now.table.now refl c.requires.sound (omega arith) c.args.l c.requires.level.0 c.requires.level.1
 
-pub offset-bounds-self-from : goal.offset-bounds-self-from
-offset-bounds-self-from g c =
+pub offset_bounds-self-from : goal.offset_bounds-self-from
+offset_bounds-self-from g c =
     let p = part_within g.met.E.Entry.rules c.args.self.now.table.now refl c.requires.sound (omega arith) c.args.l c.requires.level.0 c.requires.level.1 in omega arith
 
-pub slice-bounds-result-count : goal.slice-bounds-result-count
-slice-bounds-result-count g c =
+pub slice_bounds-result-count : goal.slice_bounds-result-count
+slice_bounds-result-count g c =
     let p = part_within g.met.E.Entry.rules c.args.self.now.table.now refl c.requires.sound (omega arith) c.args.l c.requires.level.0 c.requires.level.1 in p.0
 
-pub slice-bounds-result-start : goal.slice-bounds-result-start
-slice-bounds-result-start g c =
+pub slice_bounds-result-start : goal.slice_bounds-result-start
+slice_bounds-result-start g c =
     let p = part_within g.met.E.Entry.rules c.args.self.now.table.now refl c.requires.sound (omega arith) c.args.l c.requires.level.0 c.requires.level.1 in search rules
 
-pub slice-bounds-result-end : goal.slice-bounds-result-end
-slice-bounds-result-end g c =
+pub slice_bounds-result-end : goal.slice_bounds-result-end
+slice_bounds-result-end g c =
     let p = part_within g.met.E.Entry.rules c.args.self.now.table.now refl c.requires.sound (omega arith) c.args.l c.requires.level.0 c.requires.level.1 in search rules

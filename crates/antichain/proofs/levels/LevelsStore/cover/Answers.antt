@@ -5,5 +5,5 @@ use Rattle.antichain.proofs.levels.LevelsStore.cover.Goals as goal
 
 pub returns : goal.returns
 returns g c =
-    told_level g.met.E.Entry.rules c.args.e.now c.level.result c.level.ensures _ c.find-cover.result
-    (subst (λ l. Told g.E.Entry.covers l c.args.e.now c.find-cover.result) c.of-level.ensures c.find-cover.ensures)
+    told_level g.met.E.Entry.rules c.args.e.now c.level.result c.level.ensures _ c.find_cover.result
+    (subst (λ l. Told g.E.Entry.covers l c.args.e.now c.find_cover.result) c.of_level.ensures c.find_cover.ensures)

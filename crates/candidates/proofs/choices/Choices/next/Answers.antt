@@ -9,8 +9,8 @@ use Rattle.candidates.specs.Walks.{Walked, Walked.begun}
 use Rattle.candidates.proofs.Leaves.{first_best}
 use Rattle.candidates.proofs.choices.Choices.next.Goals as goal
 
-pub first-from-requires : goal.first-from-requires
-first-from-requires c =
+pub first_from-requires : goal.first_from-requires
+first_from-requires c =
     let s = c.args.self.now in
     record {
       reaches = ap reaching c.held.ensures ∙ s.reaches;
@@ -22,5 +22,5 @@ first-from-requires c =
 
 pub returns : goal.returns
 returns c =
-    c.first-from.ensures ∙ first_best c.args.quantifier c.held.result.now c.args.from
+    c.first_from.ensures ∙ first_best c.args.quantifier c.held.result.now c.args.from
     ∙ ap (λ cs. option_map (λ v. record { value = v; hits = hit cs v }) (first_from c.args.from (bests c.args.quantifier cs))) c.held.ensures

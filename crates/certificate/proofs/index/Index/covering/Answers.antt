@@ -7,4 +7,4 @@ pub returns : goal.returns
 returns c =
     let it = c.args.self.now in
     let level = c.args.level in
-    c.covering-entry.ensures ∙ first_within (is_true c.args.verdict) level c.args.set _ (get_or it.starts level 0) (get_or it.ends level 0) (it.spanned level c.requires)
+    c.covering_entry.ensures ∙ first_within (is_true c.args.verdict) level c.args.set _ (get_or it.starts level 0) (get_or it.ends level 0) (it.spanned level c.requires)

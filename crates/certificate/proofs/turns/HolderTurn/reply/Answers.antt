@@ -7,4 +7,4 @@ pub arrive-requires : goal.arrive-requires
 arrive-requires c =
     let it = c.args.self in
     safe_reply (qbf_of it.game.formula.now) (is_true it.game.verdict) it.game.entries.now it.game.ok
-    it.at _ _ c.move-on-next.ensures it.safe it.due c.reply-at-value.ensures
+    it.at _ _ c.move_on-next.ensures it.safe it.due c.reply_at-value.ensures

@@ -8,4 +8,4 @@ pub arrive-requires : goal.arrive-requires
 arrive-requires c =
     let it = c.args.self in
     safe_value (qbf_of it.game.formula.now) (is_true it.game.verdict) it.game.entries.now it.game.ok
-    it.at _ c.args.value c.move-on-next.ensures it.safe it.due (sym c.if-not-is-value.ensures)
+    it.at _ c.args.value c.move_on-next.ensures it.safe it.due (sym c.if-not-is_value.ensures)

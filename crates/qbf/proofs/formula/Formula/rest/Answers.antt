@@ -9,8 +9,8 @@ settle-requires c =
       narrow = level_narrow c.in-Some.block _ c.bound.ensures;
     }
 
-pub overflow-sub-result : goal.overflow-sub-result
-overflow-sub-result c = search (rules, settled_less)
+pub overflow_sub-result : goal.overflow_sub-result
+overflow_sub-result c = search (rules, settled_less)
 
 pub returns : goal.returns
 returns c =
