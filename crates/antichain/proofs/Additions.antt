@@ -1,6 +1,5 @@
 -- What an addition leaves.
-use Rattle.std.proofs.Common.{◌≡◌, ℕ, ◌+◌, ◌<◌, ◌≤◌, Bool, true, false, not, ltb, List, [], ◌∷◌, ◌++◌, length, filter, sym, refl, ap, ◌∙◌, arith}
-use Rattle.std.specs.List.{AllByRecursion}
+use Rattle.std.proofs.Common.{◌≡◌, ℕ, ◌<◌, ◌≤◌, Bool, true, false, not, ltb, List, [], ◌∷◌, ◌++◌, length, filter, sym, ap, ◌∙◌, arith}
 use Rattle.std.proofs.ByRecursion.{All-weaker, all_kept_by, kept_by_passes}
 use Rattle.std.proofs.lemmas.Bool.{ltb-true, lt-ltb, le-ltb, cond_both, not-true}
 use Rattle.antichain.specs.declared.store.AddAnswer.TheVariants.{Added, Full}
@@ -8,7 +7,7 @@ use Rattle.antichain.specs.Entries.{Rules}
 use Rattle.antichain.specs.Lookups.{covered}
 use Rattle.antichain.specs.Adding.{uncovered, placed, answer_to, held_after}
 use Rattle.antichain.specs.Antichain.{Apart, Antichain}
-use Rattle.antichain.specs.Layouts.{sorted, Ordered}
+use Rattle.antichain.specs.Layouts.{sorted}
 use Rattle.antichain.proofs.Members.{both_all}
 use Rattle.antichain.proofs.Kept.{length-kept, kept_same}
 use Rattle.antichain.proofs.Sorting.{into_push, length-into, length-placed, kept-sorted, ordered_placed, ordered_kept, ascending, ascending-kept, ordered}

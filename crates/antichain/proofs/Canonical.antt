@@ -1,5 +1,5 @@
 -- What the laws of entries say of canonical order.
-use Rattle.std.proofs.Common.{◌≡◌, ℕ, ◌<◌, ◌≤◌, Bool, true, false, cond, eqb, ltb, sym, refl, ◌∙◌, arith, rules}
+use Rattle.std.proofs.Common.{◌≡◌, ℕ, ◌<◌, ◌≤◌, Bool, true, false, sym, ◌∙◌, arith, rules}
 use Rattle.antichain.specs.Entries.{comes_before, Rules}
 
 not_itself : (l s : ℕ) → comes_before l s l s ≡ false

@@ -1,5 +1,5 @@
 -- A kind of entry that covers by an order of set numbers keeps the laws.
-use Rattle.std.proofs.Common.{◌≡◌, ℕ, ◌≤◌, Bool, true, false, cond, eqb, sym, refl, ◌∙◌, subst, inl, inr}
+use Rattle.std.proofs.Common.{◌≡◌, ℕ, ◌≤◌, Bool, true, false, eqb, sym, refl, ◌∙◌, subst, inl, inr}
 use Rattle.std.proofs.lemmas.Bool.{eq-eqb, eqb-true, cond-true, cond-false, cases_Bool, both_ways}
 use Rattle.antichain.specs.Limits.{max_level}
 use Rattle.antichain.specs.Entries.{comes_before, covers_by, Rules}

@@ -1,5 +1,5 @@
 -- An entry's place in an ascending list is how many come before it.
-use Rattle.std.proofs.Common.{◌≡◌, ℕ, zero, suc, Bool, true, false, List, [], ◌∷◌, length, Some, filter, refl, ap, ◌∙◌, subst, arith}
+use Rattle.std.proofs.Common.{◌≡◌, ℕ, zero, suc, Bool, true, List, [], ◌∷◌, length, Some, filter, refl, ap, ◌∙◌, subst, arith}
 use Rattle.std.specs.List.{AllByRecursion}
 use Rattle.antichain.specs.Entries.{Rules}
 use Rattle.antichain.specs.Lookups.{Mem, Mem.here, Mem.there, at}

@@ -1,5 +1,5 @@
 -- Lists of calls, made one by one.
-use Rattle.std.proofs.Common.{◌≡◌, ℕ, ◌+◌, ◌<◌, ◌≤◌, ltb, List, [], ◌∷◌, ◌++◌, length, get_or, take, drop, set, Some, sym, refl, ap, ◌∙◌, subst, arith}
+use Rattle.std.proofs.Common.{◌≡◌, ℕ, ◌+◌, ◌<◌, ◌≤◌, ltb, List, [], ◌∷◌, ◌++◌, length, get_or, take, drop, set, Some, sym, refl, ap, ◌∙◌, arith}
 use lib.Seq.{append_snoc}
 use Rattle.std.proofs.lemmas.List.{take_all, drop_all, drop_more, drop-set-lt, take_more_set, append-nil}
 use Rattle.antichain.specs.declared.calls.Call.{Call}

@@ -1,5 +1,5 @@
 -- What lists of calls lead to.
-use Rattle.std.specs.Prelude.{◌≡◌, ℕ, List, [], ◌∷◌, length, Some, Option}
+use Rattle.std.specs.Prelude.{◌≡◌, ℕ, List, [], ◌∷◌, length, Some}
 use Rattle.std.specs.List.{AllByRecursion}
 use Rattle.antichain.specs.declared.calls.Call.{Call}
 use Rattle.antichain.specs.declared.calls.Call.TheVariants.{Cover, Add, DropLevels, Empty, Count, Nth}

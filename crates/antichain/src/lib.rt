@@ -1,4 +1,5 @@
 // Antichains of entries: what an entry is, what a store of them means, two stores, and what all stores have in common.
+#![tactic(auto)]
 
 pub mod arrivals;
 pub mod calls;

@@ -1,5 +1,5 @@
 -- One variable more in the places from `start` on.
-use Rattle.std.proofs.Common.{◌≡◌, ℕ, ◌+◌, ◌-◌, ◌<◌, ◌≤◌, true, ◌&&◌, ltb, List, ◌∷◌, length, drop, set, sym, ap, ◌∙◌, subst, ap₂, arith}
+use Rattle.std.proofs.Common.{◌≡◌, ℕ, ◌+◌, ◌-◌, ◌≤◌, true, ltb, List, ◌∷◌, length, drop, set, sym, ap, ◌∙◌, arith}
 use lib.Bits.{bit_or}
 use Rattle.std.proofs.lemmas.List.{drop-set, length-drop}
 use Rattle.std.proofs.lemmas.Bool.{and_from, eq-eqb, lt-ltb}

@@ -1,11 +1,10 @@
 -- The values that walks end with are all values of the block, ascending, each with what it satisfies.
-use Rattle.std.proofs.Common.{◌≡◌, ℕ, zero, suc, ◌+◌, ◌*◌, ◌/◌, ◌%◌, ◌^◌, ◌<◌, ◌≤◌, Bool, true, false, cond, not, ◌&&◌, ◌||◌, eqb, leb, List, [], ◌∷◌, ◌++◌, map, length, Some, None, filter, Option, sym, refl, ap, ◌∙◌, ap₂, add-zero, add_assoc, add-suc, mul_assoc, mul_comm, add-mul, one-mul, pow-suc, zero-add, zero-mul, mul-one, arith}
+use Rattle.std.proofs.Common.{◌≡◌, ℕ, zero, suc, ◌+◌, ◌*◌, ◌^◌, ◌<◌, ◌≤◌, Bool, true, false, cond, not, ◌&&◌, ◌||◌, eqb, leb, List, [], ◌∷◌, ◌++◌, map, length, Some, None, filter, Option, sym, refl, ap, ◌∙◌, ap₂, add-zero, add_assoc, add-suc, mul_assoc, mul_comm, add-mul, one-mul, pow-suc, zero-mul, mul-one, arith}
 use mathlib.Core.Path.{fun_ext}
 use lib.Bits.{bit_or, or_zero_l, or_zero_r}
 use Rattle.std.specs.Option.{option_map}
 use Rattle.std.proofs.lemmas.List.{map-append, append_assoc, append-nil}
 use Rattle.std.proofs.lemmas.Simd.{map-map}
-use Rattle.std.proofs.lemmas.Bool.{cond_both, eq-eqb, ne_eqb}
 use Rattle.truth.specs.declared.literal.Quantifier.{Quantifier}
 use Rattle.truth.specs.Truth.{any, below}
 use Rattle.truth.specs.Candidates.{first_from}

@@ -1,5 +1,5 @@
 -- Unions inside unions.
-use Rattle.std.proofs.Common.{◌≡◌, ℕ, true, sym, ap, ◌∙◌}
+use Rattle.std.proofs.Common.{◌≡◌, ℕ, true, ap, ◌∙◌}
 use lib.Bits.{bit_and, bit_or, or_comm}
 use Rattle.truth.specs.declared.literal.Quantifier.{Quantifier}
 use Rattle.truth.specs.declared.literal.Quantifier.TheVariants.{Existential, Universal}

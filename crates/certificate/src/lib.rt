@@ -1,4 +1,5 @@
 // Certificates: entries are checked against a formula, and accepted ones are played.
+#![tactic(auto)]
 
 pub mod accepted;
 mod assign;

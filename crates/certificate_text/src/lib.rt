@@ -4,6 +4,7 @@
 // clauses the formula has. Line 3 is the heading `level set reply`, and each further line is an entry: its level; its
 // clauses, ascending and joined by commas, or `-` for none; and its reply, a binary digit for each variable of the level's
 // block, or `-` where no reply is owed. Lines, fields and numbers are those of a formula's text.
+#![tactic(auto)]
 
 mod entry_line;
 mod entry_text;

@@ -1,5 +1,5 @@
 -- When an entry can stand in a certificate of a formula.
-use Rattle.std.specs.Prelude.{ℕ, ◌-◌, ◌^◌, Bool, false, not, ◌&&◌, List, [], ◌∷◌, length, drop, nat_le, nat_lt}
+use Rattle.std.specs.Prelude.{◌-◌, ◌^◌, Bool, false, not, ◌&&◌, List, [], ◌∷◌, length, drop, nat_le, nat_lt}
 use Rattle.truth.specs.Syntax.{Block, Qbf}
 use Rattle.truth.specs.Sides.{owes}
 use Rattle.entries.specs.declared.entry.Entry.{Entry}

@@ -1,5 +1,5 @@
 -- Covering is an order of set numbers, for either verdict.
-use Rattle.std.specs.Prelude.{◌≡◌, ℕ, ◌≤◌, Bool, true}
+use Rattle.std.specs.Prelude.{◌≤◌, Bool}
 use Rattle.antichain.specs.Limits.{max_level}
 use Rattle.antichain.specs.Entries.{comes_before, covers_by, Rules}
 use Rattle.antichain.proofs.LawfulKinds.{rules_by}

@@ -1,5 +1,5 @@
 -- What a line's numbers or literals leave in a record of fixed size, one after another.
-use Rattle.std.specs.Prelude.{ℕ, ◌+◌, ◌-◌, max, cond, List, [], ◌∷◌, replicate, nat_le, slice_set}
+use Rattle.std.specs.Prelude.{ℕ, ◌+◌, max, cond, List, [], ◌∷◌, replicate, nat_le, slice_set}
 use Rattle.truth.specs.declared.literal.Literal.{Literal}
 use Rattle.formula_text.specs.declared.numbers.Numbers.{Numbers}
 use Rattle.formula_text.specs.declared.gather.Gathered.{Gathered}

@@ -1,4 +1,5 @@
 // The text of a formula: read exactly, or refused with the one fault due.
+#![tactic(auto)]
 
 mod bind;
 mod block_line;

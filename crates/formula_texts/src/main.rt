@@ -1,5 +1,6 @@
 // Reads each text of the file `texts` and prints what `inspect` prints of it.
 // A text follows a line `== NAME` and goes on to the next such line. Where the name ends with `\`, its last byte 10 is left out.
+#![tactic(auto)]
 
 use formula_text::read::read;
 use report::refusal::print_refusal;

@@ -1,4 +1,5 @@
 // Reads a formula on standard input and prints its shape, or why it is refused.
+#![tactic(auto)]
 
 use formula_text::read::read;
 use report::refusal::print_refusal;

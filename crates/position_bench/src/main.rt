@@ -1,5 +1,6 @@
 // Takes the rest of all clauses under every value of every block, and the candidates of each block, many times over.
 // What was found goes to standard output, and what one rest and one block of candidates cost to standard error.
+#![tactic(auto)]
 
 use formula_text::read::read;
 use qbf::formula::Formula;

@@ -1,4 +1,5 @@
 // Quantified Boolean formulas: what they hold, and the positions, rests and candidates of a play over them.
+#![tactic(auto)]
 
 pub mod block;
 pub mod candidate;

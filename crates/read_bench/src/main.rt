@@ -1,4 +1,5 @@
 // Reads a formula of 32,768 bytes many times over. Time it with `time target/bin/read_bench 1000`.
+#![tactic(auto)]
 
 use formula_text::read::read;
 use std::alloc::{AllocError, Global};

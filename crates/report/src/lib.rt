@@ -1,4 +1,5 @@
 // What programs print of a formula and of a refusal. What is printed is tested, and not proved.
+#![tactic(auto)]
 
 pub mod refusal;
 pub mod shape;

@@ -1,5 +1,5 @@
 -- To lie inside is an order of sets.
-use Rattle.std.specs.Prelude.{◌≡◌, ℕ, zero, suc, ◌+◌, ◌*◌, ◌/◌, ◌%◌, ◌^◌, ◌<◌, min, true, bit_and}
+use Rattle.std.specs.Prelude.{◌≡◌, ℕ, zero, suc, ◌/◌, ◌^◌, ◌<◌, true, bit_and}
 use Rattle.std.proofs.Common.{sym, ◌∙◌, arith, pow-suc}
 use Rattle.std.specs.Int.Bits.{and_step, and_self}
 use Rattle.std.proofs.lemmas.Nat.{and_comm, and_le_l}

@@ -1,4 +1,5 @@
 // Sets of small numbers as entries, of two kinds: those that cover what lies inside them, and those that cover what lies around them.
+#![tactic(auto)]
 
 pub mod apart;
 pub mod card;

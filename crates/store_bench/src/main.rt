@@ -1,5 +1,7 @@
 // Fills both stores to several sizes, and does some work at each. How many calls got which answer goes to standard
 // output, and how many there were in a second to standard error, so that what the program writes is always the same.
+#![tactic(auto)]
+
 mod measure;
 mod work;
 

@@ -1,4 +1,6 @@
 // Runs lists of calls on both stores, and prints the answers side by side.
+#![tactic(auto)]
+
 mod print;
 mod scenes;
 

@@ -1,6 +1,6 @@
 -- What lines and fields are, said without splitting: how a text is put together from its lines, and a line from its
 -- fields.
-use Rattle.std.specs.Prelude.{◌≡◌, ℕ, suc, ◌<◌, List, [], ◌∷◌, ◌++◌, length, replicate, ◌≢◌}
+use Rattle.std.specs.Prelude.{ℕ, suc, ◌<◌, List, [], ◌∷◌, ◌++◌, length, replicate, ◌≢◌}
 use Rattle.std.specs.List.{AllByRecursion}
 
 -- The byte does not occur.

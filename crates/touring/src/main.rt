@@ -1,4 +1,5 @@
 // Reads and checks a certificate, prints the sheet of replies, and plays the values on standard input.
+#![tactic(auto)]
 
 mod evening;
 mod sheet;

@@ -1,5 +1,5 @@
 -- Numbers as sets of bits.
-use Rattle.std.proofs.Common.{◌≡◌, ℕ, zero, suc, ◌+◌, ◌-◌, ◌*◌, ◌/◌, ◌%◌, ◌^◌, ◌<◌, ◌≤◌, max, true, cond, ◌&&◌, eqb, sym, refl, ap, ◌∙◌, ap₂, inl, inr, mul_assoc, pow-suc, arith}
+use Rattle.std.proofs.Common.{◌≡◌, ℕ, zero, suc, ◌+◌, ◌*◌, ◌/◌, ◌%◌, ◌^◌, ◌<◌, ◌≤◌, max, true, cond, ◌&&◌, eqb, sym, refl, ap, ◌∙◌, ap₂, inl, inr, mul_assoc, pow-suc, arith}
 use lib.Bits.{bit_and, bit_or, and_step, or_step, and_comm, or_comm, and_self, and_zero_r, and_le_r, or_zero_l, or_add_and}
 use Rattle.std.proofs.lemmas.Bool.{cases_Bool, cases_eq, eqb-true, eqb-false, eq-eqb, ne_eqb, cond-true, cond-false}
 use Rattle.truth.specs.Sets.{inside}

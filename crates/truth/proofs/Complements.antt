@@ -1,10 +1,10 @@
 -- What is left of a set without a part of it.
-use Rattle.std.proofs.Common.{◌≡◌, ℕ, zero, suc, ◌+◌, ◌-◌, ◌*◌, ◌/◌, ◌%◌, ◌<◌, ◌≤◌, min, Bool, true, false, eqb, sym, refl, ap, ◌∙◌, subst, ap₂, inl, inr, arith}
+use Rattle.std.proofs.Common.{◌≡◌, ℕ, zero, suc, ◌+◌, ◌-◌, ◌*◌, ◌/◌, ◌%◌, ◌≤◌, min, eqb, sym, refl, ap, ◌∙◌, subst, ap₂, inl, inr, arith}
 use native.Mathlib.Nat.{sub-zero}
 use lib.Bits.{bit_and, and_step, and_le_l, and_le_r, and_zero_r}
 use Rattle.std.proofs.lemmas.Bool.{cases_Bool, cases_eq, both_ways, eq-eqb, ne_eqb}
 use Rattle.truth.specs.Sets.{inside}
-use Rattle.truth.proofs.Bits.{Sub, sub_of, of_sub, sub_self, sub_half, sub_low, sub_join}
+use Rattle.truth.proofs.Bits.{Sub, sub_of, of_sub, sub_half, sub_low, sub_join}
 
 -- A part is no larger.
 pub sub_le : (a t : ℕ) → Sub a t → a ≤ t

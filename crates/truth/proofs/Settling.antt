@@ -1,12 +1,12 @@
 -- The rest under a value, by the occurrences of its literals.
-use Rattle.std.proofs.Common.{◌≡◌, ℕ, zero, suc, ◌+◌, ◌-◌, ◌*◌, ◌/◌, ◌%◌, ◌^◌, ◌<◌, ◌≤◌, min, max, Bool, true, false, cond, not, ◌&&◌, ◌||◌, eqb, List, [], ◌∷◌, length, sym, refl, ap, ◌∙◌, ap₂, inl, inr, mod-eq_of_lt, one-mul, pow-suc, zero-mul, div-one, arith, pow_pos}
+use Rattle.std.proofs.Common.{◌≡◌, ℕ, zero, suc, ◌+◌, ◌-◌, ◌*◌, ◌/◌, ◌%◌, ◌^◌, ◌<◌, min, max, Bool, true, false, cond, not, ◌&&◌, ◌||◌, eqb, List, [], ◌∷◌, length, sym, refl, ap, ◌∙◌, ap₂, inl, inr, mod-eq_of_lt, one-mul, pow-suc, zero-mul, div-one, arith, pow_pos}
 use native.Mathlib.Nat.{div-div-eq-div-mul}
 use lib.Bits.{bit_and, bit_or, and_step, or_step, and_zero_r, and_mask}
 use Rattle.std.proofs.lemmas.Bool.{cases_eq, eq-eqb, ne_eqb}
 use Rattle.truth.specs.declared.literal.Clause.{Clause}
 use Rattle.truth.specs.Syntax.{Block}
 use Rattle.truth.specs.Truth.{made_true, made_false, satisfied, rest, rest_under, whole}
-use Rattle.truth.specs.Occurrences.{satisfiers, occurrences, settled}
+use Rattle.truth.specs.Occurrences.{occurrences, settled}
 use Rattle.truth.proofs.Bits.{bit, and_power}
 use Rattle.truth.proofs.Rests.{satisfied_or}
 

@@ -1,4 +1,5 @@
 // Quantifiers, clauses and verdicts: what a formula is, when it is well formed, and when it is true.
+#![tactic(auto)]
 
 pub mod limits;
 pub mod literal;

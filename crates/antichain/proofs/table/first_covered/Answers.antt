@@ -1,4 +1,4 @@
-use Rattle.std.proofs.Common.{◌≡◌, true, not, get_or, take, sym, ap, ◌∙◌, subst, arith}
+use Rattle.std.proofs.Common.{◌≡◌, true, not, take, sym, ap, subst, arith}
 use Rattle.antichain.specs.Adding.{uncovered}
 use Rattle.antichain.proofs.Compacting.{whole_more}
 use Rattle.antichain.proofs.table.first_covered.Goals as goal

@@ -1,4 +1,4 @@
-use Rattle.std.proofs.Common.{◌<◌, length, sym, arith, rules}
+use Rattle.std.proofs.Common.{◌<◌, length, arith, rules}
 use Rattle.candidates.proofs.Steps.{end_below, end_beaten, end_good, first_skip, walked_low, walked_high, first_low, first_high, first_needless, deeper_small}
 use Rattle.candidates.proofs.walk.+first_from.Goals as goal
 use Rattle.candidates.proofs.walk.+first_from.Goals.{then-value-from-via-then-value-from, then-value-from-via-else-value-from+then-is_beaten}

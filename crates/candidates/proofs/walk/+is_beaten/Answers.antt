@@ -1,4 +1,4 @@
-use Rattle.std.proofs.Common.{◌≡◌, ◌∷◌, length, arith, rules}
+use Rattle.std.proofs.Common.{◌≡◌, ◌∷◌, arith, rules}
 use Rattle.candidates.specs.Hits.{better}
 use Rattle.candidates.proofs.Steps.{some_end, later_reaching, later_small, some_out, some_low, some_high}
 use Rattle.candidates.proofs.walk.+is_beaten.Goals as goal

@@ -1,8 +1,8 @@
-use Rattle.std.proofs.Common.{◌≡◌, ◌+◌, true, false, [], ◌∷◌, ◌++◌, length, take, set, sym, refl, ap, ◌∙◌, subst, arith, length-set, length-take}
+use Rattle.std.proofs.Common.{◌≡◌, ◌+◌, true, take, set, sym, refl, ap, ◌∙◌, subst, arith, length-set, length-take}
 use Rattle.std.proofs.lemmas.List.{take_more_set, length-take-le, drop_all}
 use Rattle.antichain.specs.Limits.{capacity_of}
 use Rattle.antichain.specs.Lookups.{covered}
-use Rattle.antichain.specs.Adding.{uncovered, held_after}
+use Rattle.antichain.specs.Adding.{held_after}
 use Rattle.antichain.specs.Antichain.{Apart}
 use Rattle.antichain.specs.Layouts.{sorted}
 use Rattle.antichain.proofs.Covering.{told_some, told_none}

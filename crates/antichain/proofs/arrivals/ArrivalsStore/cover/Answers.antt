@@ -1,4 +1,4 @@
-use Rattle.std.proofs.Common.{[], take}
+use Rattle.std.proofs.Common.{take}
 use native.Mathlib.Nat.{sub-zero}
 use Rattle.antichain.proofs.Covering.{told_sorted}
 use Rattle.antichain.proofs.arrivals.ArrivalsStore.cover.Goals as goal

@@ -1,4 +1,4 @@
-use Rattle.std.proofs.Common.{◌≡◌, ℕ, ◌-◌, ◌≤◌, min, length, get_or, take, drop, refl, ap, ◌∙◌, arith}
+use Rattle.std.proofs.Common.{◌≡◌, ℕ, ◌-◌, ◌≤◌, min, get_or, take, drop, refl, ap, ◌∙◌, arith}
 use lib.Seq.{paste}
 use Rattle.antichain.specs.Limits.{max_level, max_entries, capacity_of}
 use Rattle.antichain.specs.Adding.{above}

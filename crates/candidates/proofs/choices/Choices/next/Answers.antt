@@ -1,11 +1,9 @@
-use Rattle.std.proofs.Common.{◌≡◌, ℕ, ◌≤◌, true, List, length, drop, sym, ap, ◌∙◌, subst, arith, rules}
+use Rattle.std.proofs.Common.{length, ap, ◌∙◌, arith}
 use Rattle.std.proofs.lemmas.List.{length-drop}
 use Rattle.std.specs.Option.{option_map}
 use Rattle.truth.specs.Candidates.{first_from}
-use Rattle.candidates.specs.declared.choice.Choice.{Choice}
-use Rattle.candidates.specs.Held.{choices_in}
 use Rattle.candidates.specs.Hits.{hit, bests, reaching}
-use Rattle.candidates.specs.Walks.{Walked, Walked.begun}
+use Rattle.candidates.specs.Walks.{Walked.begun}
 use Rattle.candidates.proofs.Leaves.{first_best}
 use Rattle.candidates.proofs.choices.Choices.next.Goals as goal
 

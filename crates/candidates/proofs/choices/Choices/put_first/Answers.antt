@@ -1,4 +1,4 @@
-use Rattle.std.proofs.Common.{sym, arith, rules}
+use Rattle.std.proofs.Common.{arith, rules}
 use Rattle.candidates.proofs.Holding.{room, put_held, put-reaching}
 use Rattle.candidates.proofs.choices.Choices.put_first.Goals as goal
 

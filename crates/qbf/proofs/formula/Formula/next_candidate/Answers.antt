@@ -1,4 +1,4 @@
-use Rattle.std.proofs.Common.{ap, ◌∙◌, rules}
+use Rattle.std.proofs.Common.{ap, ◌∙◌}
 use Rattle.qbf.specs.Held.{qbf_of}
 use Rattle.qbf.specs.Stored.{block_of}
 use Rattle.qbf.specs.Offered.{offered}

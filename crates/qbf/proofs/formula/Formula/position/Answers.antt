@@ -1,4 +1,4 @@
-use Rattle.std.proofs.Common.{Err, sym, ap, ◌∙◌}
+use Rattle.std.proofs.Common.{Err, ap, ◌∙◌}
 use native.Mathlib.Nat.{sub-zero}
 use Rattle.qbf.proofs.Positioning.{first_ranged, position_past, position_off, position_on}
 use Rattle.qbf.proofs.formula.Formula.position.Goals as goal

@@ -1,4 +1,4 @@
-use Rattle.std.proofs.Common.{◌≡◌, ◌-◌, ◌^◌, ◌≤◌, length, sym, ap, ◌∙◌, arith, pow_pos}
+use Rattle.std.proofs.Common.{◌≡◌, ◌-◌, ◌^◌, length, ap, ◌∙◌, arith, pow_pos}
 use Rattle.qbf.specs.Held.{clauses_in}
 use Rattle.qbf.proofs.Fronts.{clauses_count}
 use Rattle.qbf.proofs.Positioning.{whole_shift}

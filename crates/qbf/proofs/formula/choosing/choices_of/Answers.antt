@@ -1,4 +1,4 @@
-use Rattle.std.proofs.Common.{◌-◌, ◌<◌, length, sym, ap, ◌∙◌, arith, rules}
+use Rattle.std.proofs.Common.{◌-◌, ◌<◌, length, ap, ◌∙◌, arith, rules}
 use lib.Bits.{bit_and}
 use Rattle.truth.specs.Limits.{max_variables}
 use Rattle.truth.specs.WellFormed.{ranged}
