@@ -1,5 +1,5 @@
 -- What a store of a capacity answers to an addition, and what it holds then; and what it holds once levels are dropped.
-use Rattle.std.specs.Prelude.{ℕ, Bool, cond, not, ltb, List, [], ◌∷◌, length, filter, nat_lt}
+use Rattle.std.specs.Prelude.{ℕ, Bool, cond, not, List, [], ◌∷◌, length, filter, nat_lt}
 use Rattle.antichain.specs.declared.store.AddAnswer.{AddAnswer}
 use Rattle.antichain.specs.declared.store.AddAnswer.TheVariants.{Added, Covered, Full}
 use Rattle.antichain.specs.Lookups.{covered}
@@ -25,4 +25,4 @@ held_after covers before capacity xs e =
 
 -- The entries of a level above l.
 abbrev pub above : {E : Type 0} → (E → ℕ) → ℕ → List E → List E
-above level l xs = filter (λ x. ltb l (level x)) xs
+above level l xs = filter (λ x. nat_lt l (level x)) xs

@@ -1,5 +1,5 @@
 -- How the two stores lay their entries out in a table.
-use Rattle.std.specs.Prelude.{◌≡◌, ℕ, ◌≤◌, Bool, false, List, [], ◌∷◌, length, take, filter, nat_le, slice_index, slice_index_or}
+use Rattle.std.specs.Prelude.{◌≡◌, ℕ, ◌≤◌, Bool, false, List, [], ◌∷◌, length, take, filter, nat_le, slice_index}
 use Rattle.std.specs.List.{AllByRecursion}
 use Rattle.antichain.specs.Limits.{max_level, capacity_of}
 use Rattle.antichain.specs.Adding.{placed}
@@ -35,7 +35,7 @@ abbrev pub grouped : {E : Type 0} → List ℕ → List E → List E
 grouped starts table = take (slice_index starts max_level) table
 
 pub record Laid {E : Type 0} (level : E → ℕ) (covers before : E → E → Bool) (capacity : ℕ) (starts : List ℕ) (xs : List E) : Type 0 where
-  pub fits : slice_index_or starts max_level 0 ≤ capacity
+  pub fits : slice_index starts max_level ≤ capacity
   pub counts : (k : ℕ) → k ≤ max_level → slice_index starts k ≡ length (upto level k xs)
   pub ordered : Ordered before xs
   pub apart : Apart covers xs

@@ -73,9 +73,9 @@ gives_is w (Value x) h = ap Value (eqb-true x w h)
 
 module _ (f : Qbf) (v : Bool) (es : List Entry) (sup : all (supported v f es) es ≡ true) where
   -- What is known of a supported entry at a level: it fits, and it is upheld.
-  at_level : (e : Entry) (b : Block) (bs : List Block) (level : ℕ) → Mem e es → e.level ≡ level → drop (level - 1) f.prefix ≡ b ∷ bs →
+  stands_at : (e : Entry) (b : Block) (bs : List Block) (level : ℕ) → Mem e es → e.level ≡ level → drop (level - 1) f.prefix ≡ b ∷ bs →
       (replies v (b ∷ bs) e.reply ≡ true) × (upheld v f.matrix es (b ∷ bs) level e.set e.reply ≡ true)
-  at_level e b bs level m at d =
+  stands_at e b bs level m at d =
       let k = and_parts (fits v f e) _ (all_member (supported v f es) es sup m) in
       let i = and_parts (leb 1 e.level) _ k.0 in
       let j = and_parts (ltb e.set (2 ^ length f.matrix)) _ i.1 in
@@ -94,7 +94,7 @@ module _ (f : Qbf) (v : Bool) (es : List Entry) (sup : all (supported v f es) es
         let k = any_member (covers v level s) es r in
         let e = k.0 in
         let p = and_parts (eqb e.level level) (under v s e.set) k.1.1 in
-        let a = at_level e b bs level k.1.0 (eqb-true e.level level p.0) d in
+        let a = stands_at e b bs level k.1.0 (eqb-true e.level level p.0) d in
         onward e w p.1 (every_value v es f.matrix b bs level e.set e.reply o a.0 a.1 w l)
 
     -- The reply of a covering entry is a value of its block, and leads on.
@@ -104,7 +104,7 @@ module _ (f : Qbf) (v : Bool) (es : List Entry) (sup : all (supported v f es) es
         let e = k.0 in
         let c = and_parts (covers v level s e) (gives w e.reply) k.1.1 in
         let p = and_parts (eqb e.level level) (under v s e.set) c.0 in
-        let a = at_level e b bs level k.1.0 (eqb-true e.level level p.0) d in
+        let a = stands_at e b bs level k.1.0 (eqb-true e.level level p.0) d in
         let r = replies_so v es f.matrix b bs level e.set e.reply o a.0 a.1 in
         let same : r.0 ≡ w = (let x = sym r.1.0 ∙ gives_is w e.reply c.1 in cc) in
         subst (λ z. (z < 2 ^ length b.variables) × (reached v es bs (level + 1) (rest_under f.matrix b z s) ≡ true)) same
@@ -114,7 +114,7 @@ module _ (f : Qbf) (v : Bool) (es : List Entry) (sup : all (supported v f es) es
     pub reply_there : owes v b.quantifier ≡ true → (e : Entry) → Mem e es → covers v level s e ≡ true → (w : ℕ) × ((e.reply ≡ Value w) × (lends v es level s w ≡ true))
     reply_there o e m c =
         let p = and_parts (eqb e.level level) (under v s e.set) c in
-        let a = at_level e b bs level m (eqb-true e.level level p.0) d in
+        let a = stands_at e b bs level m (eqb-true e.level level p.0) d in
         let r = replies_so v es f.matrix b bs level e.set e.reply o a.0 a.1 in
         let w = r.0 in
         let own : gives w e.reply ≡ true = ap (gives w) r.1.0 ∙ eq-eqb w w refl in

@@ -165,7 +165,7 @@ module _ (f : Qbf) (formed : WellFormed f) (v : Verdict) (e : Entry) (fit : fits
   entry_written : EntryLine f e (entry_text f e) × Without 10 (entry_text f e)
   entry_written = spaced-written _ _ _ level_text set_text_lem reply_text_lem
 
--- AllByRecursion lines.
+-- All lines.
 
 module _ (f : Qbf) (formed : WellFormed f) (v : Verdict) where
   entries_read : (n places : ℕ) (before es : List Entry) (lines : List (List ℕ)) → Pairwise (EntryLine f) es lines → all (fits (is_true v) f) es ≡ true → length (before ++ es) ≤ places

@@ -1,5 +1,5 @@
 -- The formula that a text means, or the fault with the lowest line and then the lowest number.
-use Rattle.std.specs.Prelude.{ℕ, ◌+◌, Bool, cond, not, ◌&&◌, ◌||◌, leb, List, [], ◌∷◌, ◌++◌, length, Some, None, Ok, Err, Option, Result, ◌==◌, nat_le, nat_lt, slice_index}
+use Rattle.std.specs.Prelude.{ℕ, ◌+◌, Bool, cond, not, ◌&&◌, ◌||◌, List, [], ◌∷◌, ◌++◌, length, Some, None, Ok, Err, Option, Result, ◌==◌, nat_le, nat_lt, slice_index}
 use Rattle.faults.specs.declared.cause.Cause.{Cause}
 use Rattle.faults.specs.declared.cause.Cause.TheVariants.{FormulaForm, OverLimit, BadVariable, BadAlternation, UnboundVariable, ClauseCount}
 use Rattle.faults.specs.declared.fault.Fault.{Fault}
@@ -77,7 +77,7 @@ read_block n h bs q next line = place_block n h bs q next (variables_of line)
 abbrev pub bind_clause : ℕ → Counts → List Block → Option (List Literal) → Result Clause Fault
 bind_clause n h bs None = Err (fault FormulaForm n)
 bind_clause n h bs (Some ls) =
-    cond (not (all (λ l. leb l.variable h.variables) ls)) (Err (fault BadVariable n))
+    cond (not (all (λ l. nat_le l.variable h.variables) ls)) (Err (fault BadVariable n))
     (cond (not (all (λ l. elem l.variable (bound_in bs)) ls)) (Err (fault UnboundVariable n))
     (Ok (clause_of ls)))
 

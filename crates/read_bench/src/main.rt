@@ -1,4 +1,4 @@
-// Reads a formula of 32,768 bytes many times over. Time it with `time target/bin/read_bench 1000`.
+// Reads a formula of 32,768 bytes many times over. Time it with `time out/read_bench 1000`.
 #![tactic(auto)]
 
 use formula_text::read::read;

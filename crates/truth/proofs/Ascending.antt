@@ -35,7 +35,7 @@ kept_high : (n : ℕ) (vs : List ℕ) → AllByRecursion (λ w. n ≤ w) vs → 
 kept_high n [] h = refl
 kept_high n (v ∷ vs) h = rw (le-leb n v h.0) (ap (λ z. v ∷ z) (kept_high n vs h.1))
 
--- AllByRecursion values are not below 0.
+-- All values are not below 0.
 pub from_start : (vs : List ℕ) → filter (leb 0) vs ≡ vs
 from_start [] = refl
 from_start (v ∷ vs) = rw (le-leb 0 v (omega arith)) (ap (λ z. v ∷ z) (from_start vs))
