@@ -31,23 +31,12 @@ shifted c h k =
     let p : 2 ^ c ≤ 2 ^ 128 = pow-le-pow_right (omega arith) k in
     omega (arith, twice c h)
 
--- A text that writes no number: no numbers at all.
-pub gather_stop : {A : Type 0} (ws rest : List (List ℕ)) (w : List ℕ) (at e : Fault) (f : List ℕ → A) (x : Option A) → ws ≡ w ∷ rest → Err e ≡ ok_or (numeral w) at → option_map f (numerals ws) ≡ x → ok_or x at ≡ Err e
-gather_stop ws rest w at e f x s n i = by (numeral w) refl
-  where
-    by : (o : Option ℕ) → numeral w ≡ o → ok_or x at ≡ Err e
-    by None k = let none : numerals ws ≡ None = rw (s, k) in cc
-    by (Some m) k = let z : ◌≡◌ {A = ℕ} 0 1 = cc in absurd (omega arith)
-
 -- One number more.
-pub gather_more : (highest : ℕ) (g : Gathered) (ws rest : List (List ℕ)) (w : List ℕ) (at : Fault) (c : ℕ) (x : Option Gathered) → ws ≡ w ∷ rest → Ok c ≡ ok_or (numeral w) at → option_map (gathered highest g) (numerals ws) ≡ x → option_map (gathered highest (further highest g c)) (numerals rest) ≡ x
-gather_more highest g ws rest w at c x s n i = sym (by (numeral w) refl) ∙ i
+pub gather_more : (highest : ℕ) (g : Gathered) (ws rest : List (List ℕ)) (w : List ℕ) (c : ℕ) (x : Option Gathered) → ws ≡ w ∷ rest → numeral w ≡ Some c → option_map (gathered highest g) (numerals ws) ≡ x → option_map (gathered highest (further highest g c)) (numerals rest) ≡ x
+gather_more highest g ws rest w c x s n i = sym step ∙ i
   where
-    by : (o : Option ℕ) → numeral w ≡ o → option_map (gathered highest g) (numerals ws) ≡ option_map (gathered highest (further highest g c)) (numerals rest)
-    by None k = let z : ◌≡◌ {A = ℕ} 0 1 = cc in absurd (omega arith)
-    by (Some m) k =
-        let same : m ≡ c = cc in
-        rw (s, k, same) (elim (numerals rest) as (λ o. option_map (gathered highest g) (and_then o (λ ns. Some (c ∷ ns))) ≡ option_map (gathered highest (further highest g c)) o) [ None ↦ refl | Some ns ↦ refl ])
+    step : option_map (gathered highest g) (numerals ws) ≡ option_map (gathered highest (further highest g c)) (numerals rest)
+    step = rw (s, n) (elim (numerals rest) as (λ o. option_map (gathered highest g) (and_then o (λ ns. Some (c ∷ ns))) ≡ option_map (gathered highest (further highest g c)) o) [ None ↦ refl | Some ns ↦ refl ])
 
 abbrev in_order : ℕ → Gathered → ℕ → Bool
 in_order highest g c = ltb g.last c && leb c highest
@@ -83,6 +72,6 @@ set_of_gathered highest cs =
       | inr t ↦ rw (sound_gathered highest nothing cs, t)
     ]
 
-pub set_read : (highest : ℕ) (o : Option (List ℕ)) (g : Gathered) (at : Fault) → Ok g ≡ ok_or (option_map (gathered highest nothing) o) at → Ok (set_from g) ≡ ok_or (option_map (set_up_to highest) o) at
-set_read highest None g at e = cc
-set_read highest (Some cs) g at e = let same : g ≡ gathered highest nothing cs = cc in ap Ok (ap set_from same ∙ set_of_gathered highest cs)
+pub set_read : (highest : ℕ) (o : Option (List ℕ)) (g : Gathered) → option_map (gathered highest nothing) o ≡ Some g → Some (set_from g) ≡ option_map (set_up_to highest) o
+set_read highest None g e = cc
+set_read highest (Some cs) g e = let same : g ≡ gathered highest nothing cs = cc in ap Some (ap set_from same ∙ set_of_gathered highest cs)

@@ -1,5 +1,4 @@
 ghost use Rattle.std.specs.Prelude.{◌≡◌, true, Some};
-ghost use Rattle.truth.specs.Sides.{owes};
 ghost use Rattle.truth.specs.Verdicts.{is_true};
 ghost use Rattle.qbf.specs.Held.{qbf_of};
 ghost use Rattle.certificate_text.specs.ReplyField.{reply_formed};
@@ -12,18 +11,7 @@ use faults::cause::Cause;
 use faults::fault::Fault;
 use qbf::formula::Formula;
 use text::fields::Fields;
-use truth::literal::Quantifier;
 use truth::verdict::Verdict;
-
-// Whether an entry of a certificate with this verdict owes a reply at a block with this quantifier.
-fn is_owed(verdict: Verdict, quantifier: Quantifier) -> bool
-    ensures { result ≡ owes (is_true verdict) quantifier }
-{
-    match (verdict, quantifier) {
-        (Verdict::True, Quantifier::Existential) | (Verdict::False, Quantifier::Universal) => true,
-        _ => false,
-    }
-}
 
 // The entry that fields of the right form write, or none where it does not fit the formula.
 fn entry_of(
@@ -39,7 +27,7 @@ fn entry_of(
     let quantifier = formula.quantifier(level as usize)?;
     let width = formula.width(level as usize)?;
     let set = set?;
-    let reply = reply_of(reply, is_owed(verdict, quantifier), width)?;
+    let reply = reply_of(reply, verdict.owes(quantifier), width)?;
     Some(Entry {
         level: level as u8,
         set,
@@ -56,11 +44,10 @@ pub(crate) fn read_entry(
 ) -> Result<Entry, Fault>
     ensures { result ≡ read_entry n (qbf_of formula.now) (is_true verdict) line.now }
 {
-    let at = Fault::new(Cause::CertificateForm, n);
-    let mut fields = Fields::of(line, at)?;
-    let level = fields.number(at)?;
-    let set = take_set(&mut fields, formula.clauses(), at)?;
-    let reply = take_reply(&mut fields, at)?;
-    fields.end(at)?;
+    let mut fields = Fields::of(line, Fault::new(Cause::CertificateForm, n))?;
+    let level = fields.number()?;
+    let set = take_set(&mut fields, formula.clauses())?;
+    let reply = take_reply(&mut fields)?;
+    fields.end()?;
     entry_of(formula, verdict, level, set, reply).ok_or(Fault::new(Cause::BadEntry, n))
 }

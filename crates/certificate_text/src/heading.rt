@@ -1,8 +1,8 @@
 ghost use Rattle.std.specs.Prelude.{◌≡◌, ◌+◌, [], ◌∷◌, Some, None, Ok, Err, MatchResult};
 ghost use Rattle.std.specs.Option.{ok_or};
-ghost use Rattle.std.specs.Str.{bytes_eq};
 ghost use Rattle.faults.specs.declared.cause.Cause.TheVariants.{CertificateForm};
 ghost use Rattle.text.specs.Left.{lines_left, next_line, fields_left};
+ghost use Rattle.text.specs.Taken.{Took};
 ghost use Rattle.formula_text.specs.Parse.{fault};
 ghost use Rattle.qbf.specs.Held.{qbf_of};
 ghost use Rattle.certificate_text.specs.Parse.{take_word, heading_of, heading_line, verdict_of, take_verdict, claim_of, verdict_line};
@@ -32,32 +32,25 @@ fn next_line<'a>(lines: &mut Lines<'a>) -> Result<&'a [u8], Fault>
     Ok(line)
 }
 
-// Whether two words are the same.
-fn same(a: &[u8], b: &[u8]) -> bool
-    ensures { result ≡ bytes_eq a.now b.now }
-{
-    a == b
-}
-
 // Takes this word.
-fn take_word(fields: &mut Fields, word: &[u8], at: Fault) -> Result<(), Fault>
-    ensures { MatchResult result (λ _. take_word word.now (fields_left fields.old) ≡ Some (fields_left fields.new)) (λ e. (take_word word.now (fields_left fields.old) ≡ None) × (e ≡ at)) }
+fn take_word(fields: &mut Fields, word: &[u8]) -> Result<(), Fault>
+    ensures { Took fields.old fields.new result (take_word word.now (fields_left fields.old)) (λ _. fields_left fields.new) }
 {
-    if !same(fields.field(at)?, word) {
-        return Err(at);
+    if fields.field()? != word {
+        return Err(fields.fault());
     }
     Ok(())
 }
 
 // Refuses a line that is not this heading of three words.
-fn expect(line: &[u8], a: &[u8], b: &[u8], c: &[u8], at: Fault) -> Result<(), Fault>
-    ensures { result ≡ ok_or (heading_of a.now b.now c.now line.now) at }
+fn expect(line: &[u8], a: &[u8], b: &[u8], c: &[u8], fault: Fault) -> Result<(), Fault>
+    ensures { result ≡ ok_or (heading_of a.now b.now c.now line.now) fault }
 {
-    let mut fields = Fields::of(line, at)?;
-    take_word(&mut fields, a, at)?;
-    take_word(&mut fields, b, at)?;
-    take_word(&mut fields, c, at)?;
-    fields.end(at)
+    let mut fields = Fields::of(line, fault)?;
+    take_word(&mut fields, a)?;
+    take_word(&mut fields, b)?;
+    take_word(&mut fields, c)?;
+    fields.end()
 }
 
 // Takes the next line, which has to be this heading of three words.
@@ -78,31 +71,29 @@ pub(crate) fn read_heading(lines: &mut Lines, a: &[u8], b: &[u8], c: &[u8]) -> R
 fn verdict_of(word: &[u8]) -> Option<Verdict>
     ensures { result ≡ verdict_of word.now }
 {
-    if same(word, b"true") {
-        return Some(Verdict::True);
+    match word {
+        b"true" => Some(Verdict::True),
+        b"false" => Some(Verdict::False),
+        _ => None,
     }
-    if same(word, b"false") {
-        return Some(Verdict::False);
-    }
-    None
 }
 
 // Takes the verdict.
-fn take_verdict(fields: &mut Fields, at: Fault) -> Result<Verdict, Fault>
-    ensures { MatchResult result (λ v. take_verdict (fields_left fields.old) ≡ Some (v, fields_left fields.new)) (λ e. (take_verdict (fields_left fields.old) ≡ None) × (e ≡ at)) }
+fn take_verdict(fields: &mut Fields) -> Result<Verdict, Fault>
+    ensures { Took fields.old fields.new result (take_verdict (fields_left fields.old)) (λ v. (v, fields_left fields.new)) }
 {
-    verdict_of(fields.field(at)?).ok_or(at)
+    verdict_of(fields.field()?).ok_or(fields.fault())
 }
 
 // The verdict and the counts of line 2.
-fn claim_of(line: &[u8], at: Fault) -> Result<Claim, Fault>
-    ensures { result ≡ ok_or (claim_of line.now) at }
+fn claim_of(line: &[u8], fault: Fault) -> Result<Claim, Fault>
+    ensures { result ≡ ok_or (claim_of line.now) fault }
 {
-    let mut fields = Fields::of(line, at)?;
-    let verdict = take_verdict(&mut fields, at)?;
-    let blocks = fields.number(at)?;
-    let clauses = fields.number(at)?;
-    fields.end(at)?;
+    let mut fields = Fields::of(line, fault)?;
+    let verdict = take_verdict(&mut fields)?;
+    let blocks = fields.number()?;
+    let clauses = fields.number()?;
+    fields.end()?;
     Ok(Claim {
         verdict,
         blocks,

@@ -1,5 +1,6 @@
-ghost use Rattle.std.specs.Prelude.{◌≡◌, ◌≤◌, true, length, Some, None, MatchResult};
+ghost use Rattle.std.specs.Prelude.{◌≡◌, ◌≤◌, true, length, IfOk};
 ghost use Rattle.text.specs.Left.{fields_left};
+ghost use Rattle.text.specs.Taken.{Took};
 ghost use Rattle.truth.specs.Limits.{max_width};
 ghost use Rattle.truth.specs.WellFormed.{all};
 ghost use Rattle.certificate_text.specs.ReplyField.{is_bit, reply_formed, binary, reply_of, take_reply};
@@ -65,12 +66,13 @@ pub(crate) fn reply_of(field: &[u8], owed: bool, width: usize) -> Option<Reply>
 }
 
 // Takes the next field, which has to have the form of a reply.
-pub(crate) fn take_reply<'a>(fields: &mut Fields<'a>, at: Fault) -> Result<&'a [u8], Fault>
-    ensures { MatchResult result (λ f. (take_reply (fields_left fields.old) ≡ Some (f.now, fields_left fields.new)) × (reply_formed f.now ≡ true)) (λ e. (take_reply (fields_left fields.old) ≡ None) × (e ≡ at)) }
+pub(crate) fn take_reply<'a>(fields: &mut Fields<'a>) -> Result<&'a [u8], Fault>
+    ensures took { Took fields.old fields.new result (take_reply (fields_left fields.old)) (λ f. (f.now, fields_left fields.new)) }
+    ensures formed { IfOk result (λ f. reply_formed f.now ≡ true) }
 {
-    let field = fields.field(at)?;
+    let field = fields.field()?;
     if !is_reply(field) {
-        return Err(at);
+        return Err(fields.fault());
     }
     Ok(field)
 }

@@ -1,6 +1,7 @@
-ghost use Rattle.std.specs.Prelude.{◌≡◌, ◌-◌, ◌^◌, ◌≤◌, ◌∷◌, length, Some, None, MatchResult};
-ghost use Rattle.std.specs.Option.{ok_or, option_map};
+ghost use Rattle.std.specs.Prelude.{◌≡◌, ◌-◌, ◌^◌, ◌≤◌, ◌∷◌, length};
+ghost use Rattle.std.specs.Option.{option_map};
 ghost use Rattle.text.specs.Left.{fields_left};
+ghost use Rattle.text.specs.Taken.{Took};
 ghost use Rattle.truth.specs.Limits.{max_clauses};
 ghost use Rattle.certificate_text.specs.SetField.{is_dash, pieces, numerals, clauses_of, set_up_to, take_set};
 ghost use Rattle.certificate_text.specs.Gathering.{nothing, further, gathered, Within, set_from, pieces_left, left_length};
@@ -76,9 +77,9 @@ fn piece(text: &[u8]) -> (&[u8], Option<&[u8]>)
 }
 
 // Gathers numbers joined by commas.
-fn gather(field: &[u8], highest: usize, at: Fault) -> Result<Gathered, Fault>
+fn gather(field: &[u8], highest: usize) -> Option<Gathered>
     requires { highest ≤ max_clauses }
-    ensures { result ≡ ok_or (option_map (gathered highest nothing) (numerals (pieces field.now))) at }
+    ensures { result ≡ option_map (gathered highest nothing) (numerals (pieces field.now)) }
 {
     let mut all = Gathered {
         set: 0,
@@ -88,31 +89,27 @@ fn gather(field: &[u8], highest: usize, at: Fault) -> Result<Gathered, Fault>
     let mut left = Some(field);
     while let Some(rest) = left {
         let (first, after) = piece(rest);
-        all = all.with(number(first, at)?, highest);
+        all = all.with(number(first)?, highest);
         left = after;
     }
-    Ok(all)
+    Some(all)
 }
 
 // Reads the set field of an entry line. The set is none where a clause is out of range or order.
-fn read_set(field: &[u8], highest: usize, at: Fault) -> Result<Option<u128>, Fault>
+fn read_set(field: &[u8], highest: usize) -> Option<Option<u128>>
     requires { highest ≤ max_clauses }
-    ensures { result ≡ ok_or (option_map (set_up_to highest) (clauses_of field.now)) at }
+    ensures { result ≡ option_map (set_up_to highest) (clauses_of field.now) }
 {
     if is_dash(field) {
-        return Ok(Some(0));
+        return Some(Some(0));
     }
-    Ok(gather(field, highest, at)?.set())
+    Some(gather(field, highest)?.set())
 }
 
 // Takes the set field, and hands it to the set reader.
-pub(crate) fn take_set(
-    fields: &mut Fields,
-    highest: usize,
-    at: Fault,
-) -> Result<Option<u128>, Fault>
+pub(crate) fn take_set(fields: &mut Fields, highest: usize) -> Result<Option<u128>, Fault>
     requires { highest ≤ max_clauses }
-    ensures { MatchResult result (λ s. take_set highest (fields_left fields.old) ≡ Some (s, fields_left fields.new)) (λ e. (take_set highest (fields_left fields.old) ≡ None) × (e ≡ at)) }
+    ensures { Took fields.old fields.new result (take_set highest (fields_left fields.old)) (λ s. (s, fields_left fields.new)) }
 {
-    read_set(fields.field(at)?, highest, at)
+    read_set(fields.field()?, highest).ok_or(fields.fault())
 }

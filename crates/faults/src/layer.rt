@@ -1,6 +1,8 @@
 ghost use Rattle.std.specs.Prelude.{◌≡◌};
 ghost use Rattle.faults.specs.Refusals.{layer_name};
 
+use std::fmt;
+
 // The part of the library that refuses.
 #[derive(Clone, Copy, PartialEq, Eq, Debug, Drop)]
 pub enum Layer {
@@ -25,5 +27,11 @@ impl Layer {
             Layer::Play => "play",
             Layer::Program => "program",
         }
+    }
+}
+
+impl fmt::Display for Layer {
+    fn fmt<W: fmt::Write>(&self, f: &mut fmt::Formatter<W>) -> fmt::Result {
+        f.write_str(self.name())
     }
 }

@@ -11,19 +11,13 @@ use Rattle.formula_text.specs.Literals.{literal_of, literals_of, prepend, positi
 use Rattle.formula_text.specs.Gathered.{none, wider, widened, further, gathered}
 use Rattle.formula_text.proofs.Gathering.{count_widened}
 
--- What a look-up that gave a value found.
-pub found_some : {A E : Type 0} (o : Option A) (e : E) (x : A) → Ok x ≡ ok_or o e → o ≡ Some x
-found_some None e x h = cc
-found_some (Some y) e x h = cc
-
-pub literals_more : (ws left : List (List ℕ)) (w : List ℕ) (l : Literal) (at : Fault) → take_field ws ≡ Some (w, left) → Ok l ≡ ok_or (literal_of w) at → (l.variable ≡ 0 → ⊥) → literals_of ws ≡ prepend l (literals_of left)
-literals_more [] left w l at t e n = cc
-literals_more (v ∷ vs) left w l at t e n =
+pub literals_more : (ws left : List (List ℕ)) (w : List ℕ) (l : Literal) → take_field ws ≡ Some (w, left) → literal_of w ≡ Some l → (l.variable ≡ 0 → ⊥) → literals_of ws ≡ prepend l (literals_of left)
+literals_more [] left w l t e n = cc
+literals_more (v ∷ vs) left w l t e n =
     let p : ◌≡◌ {A = List ℕ × List (List ℕ)} (v, vs) (w, left) = cc in
     let a : v ≡ w = ap (λ x. x.0) p in
     let b : vs ≡ left = ap (λ x. x.1) p in
-    let f = found_some (literal_of w) at l e in
-    simp (a, b, f, ne_eqb l.variable 0 n)
+    simp (a, b, e, ne_eqb l.variable 0 n)
 
 -- A loop that gathers literals.
 pub gathered_more : (o left : Option (List Literal)) (l : Literal) (g : Gathered) (x : Option Gathered) → o ≡ prepend l left → option_map (gathered g) o ≡ x → option_map (gathered (further g l)) left ≡ x

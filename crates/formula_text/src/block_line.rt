@@ -23,12 +23,12 @@ use truth::limits::{MAX_BLOCKS, MAX_WIDTH};
 use truth::literal::Quantifier;
 
 // The numbers of a block line.
-fn numbers_of(line: &[u8], at: Fault) -> Result<Numbers, Fault>
-    ensures { result ≡ ok_or (option_map (widened none) (variables_of line.now)) at }
+fn numbers_of(line: &[u8], fault: Fault) -> Result<Numbers, Fault>
+    ensures { result ≡ ok_or (option_map (widened none) (variables_of line.now)) fault }
 {
-    let mut fields = Fields::of(line, at)?;
-    take_letter(&mut fields, at)?;
-    gather_numbers(&mut fields, at)
+    let mut fields = Fields::of(line, fault)?;
+    take_letter(&mut fields)?;
+    gather_numbers(&mut fields)
 }
 
 // Whether one block more, of these numbers, would be over a limit.

@@ -14,11 +14,11 @@ use text::fields::Fields;
 use truth::literal::Clause;
 
 // The literals of a clause line.
-fn literals_of(line: &[u8], at: Fault) -> Result<Gathered, Fault>
-    ensures { result ≡ ok_or (option_map (gathered nothing) (clause_literals line.now)) at }
+fn literals_of(line: &[u8], fault: Fault) -> Result<Gathered, Fault>
+    ensures { result ≡ ok_or (option_map (gathered nothing) (clause_literals line.now)) fault }
 {
-    let mut fields = Fields::of(line, at)?;
-    gather(&mut fields, at)
+    let mut fields = Fields::of(line, fault)?;
+    gather(&mut fields)
 }
 
 // Whether all literals of a clause are bound.

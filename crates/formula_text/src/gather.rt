@@ -49,8 +49,8 @@ impl Gathered {
 }
 
 // Takes all literals that are left of a clause line.
-pub(crate) fn gather(fields: &mut Fields, at: Fault) -> Result<Gathered, Fault>
-    ensures { result ≡ ok_or (option_map (gathered nothing) (literals_of (fields_left fields.old))) at }
+pub(crate) fn gather(fields: &mut Fields) -> Result<Gathered, Fault>
+    ensures { result ≡ ok_or (option_map (gathered nothing) (literals_of (fields_left fields.old))) fields.old.fault }
 {
     let mut all = Gathered {
         clause: Clause {
@@ -59,25 +59,25 @@ pub(crate) fn gather(fields: &mut Fields, at: Fault) -> Result<Gathered, Fault>
         },
         highest: 0,
     };
-    while let Some(literal) = next_literal(fields, at)? {
+    while let Some(literal) = next_literal(fields)? {
         all = all.with(literal);
     }
     Ok(all)
 }
 
 // Takes all numbers that are left of a block line.
-pub(crate) fn gather_numbers(fields: &mut Fields, at: Fault) -> Result<Numbers, Fault>
-    ensures { result ≡ ok_or (option_map (widened none) (numbers_of (fields_left fields.old))) at }
+pub(crate) fn gather_numbers(fields: &mut Fields) -> Result<Numbers, Fault>
+    ensures { result ≡ ok_or (option_map (widened none) (numbers_of (fields_left fields.old))) fields.old.fault }
 {
     let mut numbers = Numbers::new();
-    while let Some(literal) = next_literal(fields, at)? {
+    while let Some(literal) = next_literal(fields)? {
         if literal.negative {
-            return Err(at);
+            return Err(fields.fault());
         }
         numbers.push(literal.variable);
     }
     if numbers.count == 0 {
-        return Err(at);
+        return Err(fields.fault());
     }
     Ok(numbers)
 }

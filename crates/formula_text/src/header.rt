@@ -1,6 +1,7 @@
-ghost use Rattle.std.specs.Prelude.{◌≡◌, ◌≤◌, IfOk, Some, None, MatchResult};
+ghost use Rattle.std.specs.Prelude.{◌≡◌, ◌≤◌, IfOk};
 ghost use Rattle.std.specs.Option.{ok_or};
 ghost use Rattle.text.specs.Left.{fields_left};
+ghost use Rattle.text.specs.Taken.{Took};
 ghost use Rattle.truth.specs.Limits.{max_variables, max_clauses};
 ghost use Rattle.formula_text.specs.Parse.{take_letter, take_cnf, header_of, read_header};
 
@@ -11,36 +12,35 @@ use text::fields::Fields;
 use truth::limits::{MAX_CLAUSES, MAX_VARIABLES};
 
 // Takes the first field, which is one letter.
-pub(crate) fn take_letter(fields: &mut Fields, at: Fault) -> Result<(), Fault>
-    ensures { MatchResult result (λ _. take_letter (fields_left fields.old) ≡ Some (fields_left fields.new)) (λ e. (take_letter (fields_left fields.old) ≡ None) × (e ≡ at)) }
+pub(crate) fn take_letter(fields: &mut Fields) -> Result<(), Fault>
+    ensures { Took fields.old fields.new result (take_letter (fields_left fields.old)) (λ _. fields_left fields.new) }
 {
-    if fields.field(at)?.len() != 1 {
-        return Err(at);
+    match fields.field()? {
+        [_] => Ok(()),
+        _ => Err(fields.fault()),
     }
-    Ok(())
 }
 
 // Takes the word `cnf`.
-fn take_cnf(fields: &mut Fields, at: Fault) -> Result<(), Fault>
-    ensures { MatchResult result (λ _. take_cnf (fields_left fields.old) ≡ Some (fields_left fields.new)) (λ e. (take_cnf (fields_left fields.old) ≡ None) × (e ≡ at)) }
+fn take_cnf(fields: &mut Fields) -> Result<(), Fault>
+    ensures { Took fields.old fields.new result (take_cnf (fields_left fields.old)) (λ _. fields_left fields.new) }
 {
-    let word = fields.field(at)?;
-    if word.len() != 3 || word[0] != b'c' || word[1] != b'n' || word[2] != b'f' {
-        return Err(at);
+    match fields.field()? {
+        [b'c', b'n', b'f'] => Ok(()),
+        _ => Err(fields.fault()),
     }
-    Ok(())
 }
 
 // The counts of a line `p cnf V C`.
-fn counts_of(line: &[u8], at: Fault) -> Result<Counts, Fault>
-    ensures { result ≡ ok_or (header_of line.now) at }
+fn counts_of(line: &[u8], fault: Fault) -> Result<Counts, Fault>
+    ensures { result ≡ ok_or (header_of line.now) fault }
 {
-    let mut fields = Fields::of(line, at)?;
-    take_letter(&mut fields, at)?;
-    take_cnf(&mut fields, at)?;
-    let variables = fields.number(at)?;
-    let clauses = fields.number(at)?;
-    fields.end(at)?;
+    let mut fields = Fields::of(line, fault)?;
+    take_letter(&mut fields)?;
+    take_cnf(&mut fields)?;
+    let variables = fields.number()?;
+    let clauses = fields.number()?;
+    fields.end()?;
     Ok(Counts { variables, clauses })
 }
 

@@ -1,5 +1,4 @@
 ghost use Rattle.std.specs.Prelude.{◌≡◌, ◌<◌, OnOk};
-ghost use Rattle.std.specs.Option.{ok_or};
 ghost use Rattle.text.specs.Left.{fields_left, bytes_left};
 ghost use Rattle.formula_text.specs.Literals.{literal_of, Yields};
 
@@ -9,36 +8,35 @@ use text::number::number;
 use truth::literal::Literal;
 
 // The literal that a field writes, or 0.
-fn literal(field: &[u8], at: Fault) -> Result<Literal, Fault>
-    ensures { result ≡ ok_or (literal_of field.now) at }
+fn literal(field: &[u8]) -> Option<Literal>
+    ensures { result ≡ literal_of field.now }
 {
-    let Some((first, digits)) = field.split_first() else {
-        return Err(at);
-    };
+    let (first, digits) = field.split_first()?;
     if *first != b'-' {
-        return Ok(Literal {
+        return Some(Literal {
             negative: false,
-            variable: number(field, at)?,
+            variable: number(field)?,
         });
     }
-    let variable = number(digits, at)?;
+    let variable = number(digits)?;
     if variable == 0 {
-        return Err(at);
+        return None;
     }
-    Ok(Literal {
+    Some(Literal {
         negative: true,
         variable,
     })
 }
 
 // The next literal of a line that 0 ends, or none once that has come.
-pub(crate) fn next_literal(fields: &mut Fields, at: Fault) -> Result<Option<Literal>, Fault>
-    ensures yields { Yields at (fields_left fields.old) (fields_left fields.new) result }
+pub(crate) fn next_literal(fields: &mut Fields) -> Result<Option<Literal>, Fault>
+    ensures yields { Yields fields.old.fault (fields_left fields.old) (fields_left fields.new) result }
     ensures shorter { OnOk result (bytes_left fields.new < bytes_left fields.old) }
+    ensures fault { fields.new.fault ≡ fields.old.fault }
 {
-    let next = literal(fields.field(at)?, at)?;
+    let next = literal(fields.field()?).ok_or(fields.fault())?;
     if next.variable == 0 {
-        fields.end(at)?;
+        fields.end()?;
         return Ok(None);
     }
     Ok(Some(next))

@@ -47,10 +47,9 @@ impl Prefix {
     pub fn repeats(&self, quantifier: Quantifier) -> bool
         ensures { result ≡ repeats quantifier (blocks_of self.now.count self.now.blocks) }
     {
-        if self.count == 0 {
-            return false;
+        match self.list().last() {
+            Some(last) => quantifier == last.quantifier,
+            None => false,
         }
-        let last = self.blocks[self.count - 1];
-        quantifier.same(last.quantifier)
     }
 }

@@ -12,6 +12,7 @@ ghost use Rattle.truth.specs.Verdicts.{is_true, if_few};
 
 use crate::block::Block;
 use crate::formula::Formula;
+use truth::assignment::Assignment;
 use truth::limits::MAX_DECIDED;
 use truth::literal::{Clause, Quantifier, mask};
 use truth::verdict::Verdict;
@@ -41,7 +42,7 @@ fn satisfies(trues: u64, falses: u64, clauses: &[Clause]) -> bool
     ensures { result ≡ all (λ c. satisfied c trues falses) clauses.now }
 {
     for clause in clauses {
-        if !clause.satisfied(trues, falses) {
+        if !clause.satisfied(Assignment { trues, falses }) {
             return false;
         }
     }
@@ -96,5 +97,5 @@ pub fn decide(formula: &Formula) -> Option<Verdict>
     }
     let clauses = formula.matrix.list();
     let so = decide_from(clauses, Quantifier::Existential, &[], blocks, 0, 0);
-    Some(Verdict::of(so))
+    Some(Verdict::from(so))
 }

@@ -1,5 +1,7 @@
 -- Fields taken one after another.
-use Rattle.std.specs.Prelude.{ℕ, List, [], ◌∷◌, Some, None, Option}
+use Rattle.std.specs.Prelude.{◌≡◌, ℕ, List, [], ◌∷◌, Some, None, Option, Result, MatchResult}
+use Rattle.faults.specs.declared.fault.Fault.{Fault}
+use Rattle.text.specs.declared.fields.Fields.{Fields}
 use Rattle.text.specs.Numeral.{numeral}
 
 -- What f makes of a value, where there is one.
@@ -26,3 +28,8 @@ take_number (w ∷ ws) = and_then (numeral w) (λ n. Some (n, ws))
 abbrev pub ended : List (List ℕ) → Option (Unit {0})
 ended [] = Some tt
 ended (w ∷ ws) = None
+
+-- What was taken of a line is what is due, as a function sees it, or the line's fault where nothing is.
+abbrev pub Took : {A B : Type 0} → Fields → Fields → Result A Fault → Option B → (A → B) → Type 0
+Took old new result due seen =
+    MatchResult result (λ a. due ≡ Some (seen a)) (λ e. (due ≡ None) × (e ≡ old.fault)) × (new.fault ≡ old.fault)

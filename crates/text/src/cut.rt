@@ -7,12 +7,7 @@ pub fn find(text: &[u8], mark: u8) -> usize
     ensures before { (k : ℕ) → k < result → slice_index text.now k ≢ mark }
     ensures found { result < length text.now → slice_index text.now result ≡ mark }
 {
-    for (i, b) in text.iter().enumerate() {
-        if *b == mark {
-            return i;
-        }
-    }
-    text.len()
+    text.iter().position(|b| *b == mark).unwrap_or(text.len())
 }
 
 // The first row of a text that is not empty, up to `mark` or the end, and what follows the mark.

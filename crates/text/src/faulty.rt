@@ -2,6 +2,7 @@ ghost use Rattle.text.specs.Faulty.{Hands, line_at, faulty_line};
 ghost use Rattle.text.specs.Rows.{lines_of};
 
 use crate::lines::Lines;
+use faults::cause::Cause;
 use faults::fault::Fault;
 use faults::layer::Layer;
 
@@ -22,9 +23,10 @@ fn nth_line(text: &[u8], k: usize) -> Option<&[u8]>
 pub fn faulty_line<'a>(fault: Fault, formula: &'a [u8], certificate: &'a [u8]) -> Option<&'a [u8]>
     ensures { Hands result (faulty_line fault formula.now certificate.now) }
 {
-    match (fault.layer(), fault.number()) {
-        (Layer::Formula, _) => nth_line(formula, fault.line),
-        (Layer::Certificate, _) | (Layer::Check, 21) => nth_line(certificate, fault.line),
-        _ => None,
-    }
+    let text = match (fault.layer(), fault.cause) {
+        (Layer::Formula, _) => formula,
+        (Layer::Certificate, _) | (Layer::Check, Cause::EntryUnsupported) => certificate,
+        _ => return None,
+    };
+    nth_line(text, fault.line)
 }

@@ -34,7 +34,7 @@ impl<'a> Lines<'a> {
     pub fn next(&mut self) -> Option<&'a [u8]>
         ensures cases { MatchOption result ((lines_of self.old.rest.now ≡ []) × (lines_of self.new.rest.now ≡ []) × (self.new.line ≡ self.old.line)) (λ l. (lines_of self.old.rest.now ≡ l.now ∷ lines_of self.new.rest.now) × (self.new.line ≡ self.old.line + 1) × (length self.new.rest.now < length self.old.rest.now)) }
     {
-        if self.rest.len() == 0 {
+        if self.rest.is_empty() {
             return None;
         }
         let (line, rest) = cut(self.rest, b'\n');

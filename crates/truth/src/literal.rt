@@ -1,10 +1,12 @@
 ghost use Rattle.std.specs.Prelude.{◌≡◌, ◌-◌, ◌^◌, ◌≤◌, false};
 ghost use Rattle.truth.specs.Limits.{max_variables};
-ghost use Rattle.truth.specs.WellFormed.{same, ranged};
+ghost use Rattle.truth.specs.WellFormed.{ranged};
 ghost use Rattle.truth.specs.Truth.{satisfied};
 ghost use Rattle.truth.specs.Occurrences.{satisfiers};
 
+use crate::assignment::Assignment;
 use crate::limits::MAX_VARIABLES;
+use std::fmt;
 
 // How a block binds its variables.
 #[derive(Clone, Copy, PartialEq, Eq, Debug, Drop)]
@@ -13,16 +15,13 @@ pub enum Quantifier {
     Universal,
 }
 
-impl Quantifier {
-    // Whether two quantifiers are the same.
-    pub fn same(self, other: Quantifier) -> bool
-        ensures { result ≡ same self other }
-    {
-        match (self, other) {
-            (Quantifier::Existential, Quantifier::Existential) => true,
-            (Quantifier::Universal, Quantifier::Universal) => true,
-            _ => false,
-        }
+impl fmt::Display for Quantifier {
+    // The letter that begins a block's line.
+    fn fmt<W: fmt::Write>(&self, f: &mut fmt::Formatter<W>) -> fmt::Result {
+        f.write_str(match self {
+            Quantifier::Existential => "e",
+            Quantifier::Universal => "a",
+        })
     }
 }
 
@@ -41,11 +40,11 @@ pub struct Clause {
 }
 
 impl Clause {
-    // Whether it has a literal that is true, where the variables in one mask are true and those in the other false.
-    pub fn satisfied(self, trues: u64, falses: u64) -> bool
-        ensures { result ≡ satisfied self trues falses }
+    // Whether it has a literal that an assignment makes true.
+    pub fn satisfied(self, by: Assignment) -> bool
+        ensures { result ≡ satisfied self by.trues by.falses }
     {
-        self.positive & trues != 0 || self.negative & falses != 0
+        self.positive & by.trues != 0 || self.negative & by.falses != 0
     }
 
     // The mask of the variables that satisfy it by this truth value.

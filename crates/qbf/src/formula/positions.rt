@@ -16,6 +16,7 @@ use crate::block::Block;
 use crate::formula::Formula;
 use faults::cause::Cause;
 use faults::fault::Fault;
+use truth::assignment::Assignment;
 use truth::limits::MAX_CLAUSES;
 use truth::literal::{Clause, mask};
 use truth::verdict::Verdict;
@@ -51,7 +52,7 @@ fn settle(formula: &Formula, variables: &[u32], value: u16) -> u128
 fn left_digit(clause: Clause, trues: u64, falses: u64) -> u128
     ensures { result ≡ (if satisfied clause trues falses then 0 else 1) }
 {
-    if clause.satisfied(trues, falses) {
+    if clause.satisfied(Assignment { trues, falses }) {
         0
     } else {
         1

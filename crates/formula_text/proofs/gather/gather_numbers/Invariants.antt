@@ -12,6 +12,7 @@ invariant-loop-literal l =
     (option_map (widened l.numbers) (and_then (literals_of (words l.fields.rest.now)) positives)
     ≡ option_map (widened l.initial.numbers) (and_then (literals_of (words l.initial.fields.rest.now)) positives))
     × (l.numbers.count + length l.fields.rest.now ≤ length l.initial.fields.rest.now)
+    × (l.fields.fault ≡ l.initial.fields.fault)
 
 abbrev pub decreases-loop-literal : goal.decreases-loop-literal
 decreases-loop-literal l = length l.fields.rest.now

@@ -22,5 +22,5 @@ decide_from-so-requires c =
 
 pub returns : goal.returns
 returns c =
-    let r = refereed_some c.args.formula.now c.list-blocks.result.now c.list-blocks.ensures (sym c.if-not-binds_few.ensures) c.list-clauses.result.now c.list-clauses.ensures (is_true c.of.result) (c.of.ensures ∙ c.decide_from-so.ensures) in
+    let r = refereed_some c.args.formula.now c.list-blocks.result.now c.list-blocks.ensures (sym c.if-not-binds_few.ensures) c.list-clauses.result.now c.list-clauses.ensures (is_true c.from.result) (c.from.ensures ∙ c.decide_from-so.ensures) in
     record { plainly = r.plainly; blocks = r.blocks; laws = r.laws }

@@ -2,9 +2,10 @@ use Rattle.std.proofs.Common.{◌≡◌, ◌≤◌, length}
 use Rattle.text.specs.Rows.{words}
 use Rattle.text.proofs.fields.Fields.next.Given as goal
 
-abbrev pub invariant-loop-self : goal.invariant-loop-self
-invariant-loop-self l =
+abbrev pub invariant-loop-field : goal.invariant-loop-field
+invariant-loop-field l =
     (words l.self.rest.now ≡ words l.initial.self.rest.now) × (length l.self.rest.now ≤ length l.initial.self.rest.now)
+    × (l.self.fault ≡ l.initial.self.fault)
 
-abbrev pub decreases-loop-self : goal.decreases-loop-self
-decreases-loop-self l = length l.self.rest.now
+abbrev pub decreases-loop-field : goal.decreases-loop-field
+decreases-loop-field l = length l.self.rest.now
