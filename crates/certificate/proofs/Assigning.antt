@@ -17,7 +17,7 @@ use Rattle.truth.proofs.Members.{all_append}
 use Rattle.qbf.specs.declared.formula.Formula.{Formula}
 use Rattle.qbf.specs.Held.{qbf_of}
 use Rattle.qbf.proofs.Refereeing.{all_ranged_up}
-use Rattle.certificate.specs.declared.position.Assignment.{Assignment}
+use Rattle.truth.specs.declared.assignment.Assignment.{Assignment}
 use Rattle.certificate.specs.Plays.{with_variable, assigned}
 use Rattle.certificate.proofs.FromLevel.{following, drop_nth, from_level, all_first}
 

@@ -2,7 +2,12 @@
 use Rattle.std.proofs.Common.{◌≡◌, ℕ, ◌+◌, ◌-◌, ◌<◌, ◌≤◌, Bool, false, eqb, List, [], ◌∷◌, length, take, drop, is_some, Some, None, Option, sym, refl, ap, ◌∙◌, arith}
 use Rattle.std.specs.Option.{option_map}
 use Rattle.std.proofs.lemmas.List.{drop_all, length-map, length-take, length-drop}
+use denote.Enum.Bare.{sameb}
 use Rattle.truth.specs.declared.literal.Clause.{Clause}
+use Rattle.truth.specs.declared.verdict.Verdict.{Verdict}
+use Rattle.truth.specs.declared.verdict.Verdict.TheVariants.{True, False}
+use Rattle.truth.specs.contracts.verdict.Verdict.{the_type}
+use Rattle.truth.specs.Verdicts.{is_true}
 use Rattle.truth.specs.Limits.{max_blocks}
 use Rattle.truth.specs.Places.{numbered}
 use Rattle.truth.specs.Syntax.{Block}
@@ -13,7 +18,7 @@ use Rattle.qbf.specs.Stored.{block_of}
 use Rattle.qbf.specs.Held.{qbf_of}
 use Rattle.entries.specs.declared.entry.Entry.{Entry}
 use Rattle.certificate.specs.Accepting.{covers, reached, leads_on}
-use Rattle.certificate.specs.Spans.{first_of}
+use Rattle.std.specs.List.{find}
 use Rattle.certificate.proofs.Steps.{first_some}
 use Rattle.certificate.proofs.FromLevel.{told_none, told_some}
 
@@ -21,6 +26,13 @@ pub few_levels : (f : Formula) → length (qbf_of f).prefix ≤ max_blocks
 few_levels f =
     let bs = f.prefix.blocks in
     omega (arith, length-map (take f.prefix.count bs) block_of, length-take f.prefix.count bs, f.prefix.few)
+
+-- The verdict on what is so is a given one just where that one agrees with it.
+pub agrees_by : (made given : Verdict) (so r : Bool) → is_true made ≡ so → r ≡ sameb the_type made given → r ≡ agrees (is_true given) so
+agrees_by True True so r h e = cc
+agrees_by True False so r h e = rw (← h) e
+agrees_by False True so r h e = cc
+agrees_by False False so r h e = rw (← h) e
 
 module _ (v : Bool) (es : List Entry) (bs : List Block) (level s : ℕ) where
   pub reached_past : length bs < level → agrees v (eqb s 0) ≡ reached v es (drop (level - 1) bs) level s
@@ -30,7 +42,7 @@ module _ (v : Bool) (es : List Entry) (bs : List Block) (level s : ℕ) where
   reached_by [] h = absurd (omega arith)
   reached_by (r ∷ rs) h = refl
 
-  pub reached_within : 1 ≤ level → level ≤ length bs → (o : Option Entry) → o ≡ first_of (covers v level s) es → is_some o ≡ reached v es (drop (level - 1) bs) level s
+  pub reached_within : 1 ≤ level → level ≤ length bs → (o : Option Entry) → o ≡ find (covers v level s) es → is_some o ≡ reached v es (drop (level - 1) bs) level s
   reached_within low h o e =
       ap is_some e ∙ first_some (covers v level s) es ∙ reached_by (drop (level - 1) bs) (omega (arith, length-drop (level - 1) bs))
 

@@ -5,7 +5,7 @@ use Rattle.std.proofs.lemmas.Bool.{both_ways, not-true, ltb-true, ltb-false}
 use Rattle.truth.specs.Limits.{max_blocks}
 use Rattle.truth.specs.Syntax.{Block, Qbf}
 use Rattle.entries.specs.declared.entry.Entry.{Entry}
-use Rattle.certificate.specs.declared.position.Assignment.{Assignment}
+use Rattle.truth.specs.declared.assignment.Assignment.{Assignment}
 use Rattle.certificate.specs.declared.position.Position.{Position}
 use Rattle.certificate.specs.declared.outcome.Outcome.{Outcome}
 use Rattle.certificate.specs.declared.outcome.Outcome.TheVariants.{Ended, Due}
@@ -56,7 +56,7 @@ step_waits : (f : Qbf) (v : Bool) (es : List Entry) (p : Position) (rs : List Bl
 step_waits f v es p [] i = absurd (both_ways false refl i)
 step_waits f v es p (b ∷ bs) i = waits (not-true _ i)
 
-step_ended : (f : Qbf) (v : Bool) (es : List Entry) (p : Position) (vs : List ℕ) (rs : List Block) → nothing_due rs ≡ true → Played f v es rs p vs (Ended p.set p.played.trues p.played.falses)
+step_ended : (f : Qbf) (v : Bool) (es : List Entry) (p : Position) (vs : List ℕ) (rs : List Block) → nothing_due rs ≡ true → Played f v es rs p vs (Ended p.set p.played)
 step_ended f v es p vs [] i = ended
 step_ended f v es p vs (b ∷ bs) i = absurd (both_ways false refl i)
 
@@ -107,12 +107,12 @@ module _ (a : Accepted) (turn : Turn) (rest offers : List ℕ) (g : Going a turn
         let k = subst (λ vs. Continues h.game h.at vs offers) d (same_game a h.game g.0 h.at rest offers t.0 t.1 g.1.1) in
         subst (λ x. Goes x (root_at x) offers (Due h.at.level)) t.0 (k (Due h.at.level) (step_waits _ _ _ h.at _ h.due))
 
-  pub go_ended : (h : End) (s : ℕ) (played : Assignment) → turn ≡ Over h → s ≡ h.at.set → played ≡ h.at.played → Goes a (root_at a) offers (Ended s played.trues played.falses)
+  pub go_ended : (h : End) (s : ℕ) (played : Assignment) → turn ≡ Over h → s ≡ h.at.set → played ≡ h.at.played → Goes a (root_at a) offers (Ended s played)
   go_ended h s played e same_set same-played =
       let t = subst (λ u. At u a g.0) e g.1.0 in
       let k = same_game a h.game g.0 h.at rest offers t.0 t.1 g.1.1 in
-      let out : Position → Outcome = λ p. Ended p.set p.played.trues p.played.falses in
-      let same : out h.at ≡ Ended s played.trues played.falses = ap₂ (λ x y. Ended x y.trues y.falses) (sym same_set) (sym same-played) in
+      let out : Position → Outcome = λ p. Ended p.set p.played in
+      let same : out h.at ≡ Ended s played = ap₂ Ended (sym same_set) (sym same-played) in
       subst (Goes a (root_at a) offers) same (subst (λ x. Goes x (root_at x) offers (out h.at)) t.0 (k (out h.at) (step_ended _ _ _ h.at rest _ h.due)))
 
 -- How many levels are left, at most.

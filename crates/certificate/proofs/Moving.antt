@@ -14,12 +14,12 @@ use Rattle.entries.specs.declared.entry.Entry.{Entry}
 use Rattle.entries.specs.declared.entry.Reply.TheVariants.{None as NoReply, Value}
 use Rattle.certificate.specs.declared.outcome.Outcome.{Outcome}
 use Rattle.certificate.specs.declared.outcome.Outcome.TheVariants.{Ended, Due}
-use Rattle.certificate.specs.declared.position.Assignment.{Assignment}
+use Rattle.truth.specs.declared.assignment.Assignment.{Assignment}
 use Rattle.certificate.specs.declared.position.Position.{Position}
 use Rattle.certificate.specs.Accepting.{blocks_from, covers, reached, supported, accepts}
 use Rattle.certificate.specs.Movers.{reply_due, value_due, is_value}
 use Rattle.certificate.specs.Plays.{lends, assigned, start, moved, Safe, Played, Played.ended, Played.waits, Played.refused, Played.taken, Played.replied, Right, PlaysRight}
-use Rattle.certificate.specs.Spans.{first_of}
+use Rattle.std.specs.List.{find}
 use Rattle.certificate.proofs.Steps.{first_some, first_member}
 use Rattle.certificate.proofs.Sound.{agrees_is, next_blocks, value_reached, reply_reached, reply_there}
 use Rattle.certificate.proofs.FromLevel.{told_none, told_some}
@@ -88,7 +88,7 @@ module _ (f : Qbf) (v : Bool) (es : List Entry) where
     -- At a safe position at which a reply is due, the first covering entry has one.
     module _ (p : Position) (s : Safe f v es p) (due : reply_due v (blocks_from f p.level) ≡ true) where
       abbrev found : Option Entry
-      found = first_of (covers v p.level p.set) es
+      found = find (covers v p.level p.set) es
 
       pub covered_there : None ≡ found → ⊥
       covered_there e = at (blocks_from f p.level) due s.1
@@ -138,7 +138,7 @@ module _ (f : Qbf) (v : Bool) (es : List Entry) where
         ]
 
     play_goes : (bs : List Block) (p : Position) → blocks_from f p.level ≡ bs → Safe f v es p → Goes bs p
-    play_goes [] p d s = λ vs. (Ended p.set p.played.trues p.played.falses, ended)
+    play_goes [] p d s = λ vs. (Ended p.set p.played, ended)
     play_goes (b ∷ bs) p d s =
         let next = next_blocks f.prefix b bs p.level s.0 d in
         elim (cases_Bool (owes v b.quantifier)) [

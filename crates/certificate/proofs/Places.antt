@@ -1,12 +1,13 @@
 -- Where the entries of each level stand.
 use Rattle.std.proofs.Common.{◌≡◌, ℕ, ◌+◌, ◌-◌, ◌<◌, ◌≤◌, Bool, true, false, cond, eqb, List, [], ◌∷◌, ◌++◌, length, get_or, take, drop, set, replicate, sym, refl, ap, ◌∙◌, subst, inl, inr, arith}
+use Rattle.std.specs.List.{find}
 use Rattle.std.proofs.lemmas.List.{take_more, take_all, drop_all, drop-append-le, length-take-le, get_or-set_same, get_or-set_other, get_or-replicate, set_past, take-append-drop, drop-drop}
 use Rattle.std.proofs.lemmas.Bool.{cases_Bool, cases_eq, both_ways, and_left, eqb-true, ne_eqb, or_from, cond-true, cond-false, cond_both}
 use Rattle.truth.specs.Limits.{max_blocks}
 use Rattle.truth.specs.Truth.{any}
 use Rattle.entries.specs.declared.entry.Entry.{Entry}
 use Rattle.certificate.specs.Accepting.{covers}
-use Rattle.certificate.specs.Spans.{first_of, at_level, Within, Spanned, starts_with}
+use Rattle.certificate.specs.Spans.{at_level, Within, Spanned, starts_with}
 use Rattle.certificate.proofs.Steps.{first_behind, first_before}
 
 any_append : {A : Type 0} (p : A → Bool) (xs ys : List A) → any p xs ≡ false → any p ys ≡ false → any p (xs ++ ys) ≡ false
@@ -28,7 +29,7 @@ none_cover v level s (e ∷ es) h =
 
 -- One look among the entries of a level finds what a look among all finds.
 pub first_within : (v : Bool) (level s : ℕ) (es : List Entry) (start end : ℕ) → Within es (length es) level start end →
-    first_of (covers v level s) (take (end - start) (drop start es)) ≡ first_of (covers v level s) es
+    find (covers v level s) (take (end - start) (drop start es)) ≡ find (covers v level s) es
 first_within v level s es start end w =
     let p = covers v level s in
     let mid = take (end - start) (drop start es) in
@@ -37,7 +38,7 @@ first_within v level s es start end w =
     let rest : drop end es ≡ drop (end - start) (drop start es) = sym (drop-drop (end - start) start es ∙ ap (λ n. drop n es) reach) in
     let parts : take start es ++ (mid ++ drop end es) ≡ es =
     ap (λ z. take start es ++ (mid ++ z)) rest ∙ ap (λ z. take start es ++ z) (take-append-drop (end - start) (drop start es)) ∙ take-append-drop start es in
-    sym (first_before p mid (drop end es) behind) ∙ sym (first_behind p (take start es) (mid ++ drop end es) (none_cover v level s (take start es) w.2)) ∙ ap (first_of p) parts
+    sym (first_before p mid (drop end es) behind) ∙ sym (first_behind p (take start es) (mid ++ drop end es) (none_cover v level s (take start es) w.2)) ∙ ap (find p) parts
 
 -- Before the first entry.
 pub spanned_none : (es : List Entry) → Spanned es 0 (replicate (max_blocks + 1) 0) (replicate (max_blocks + 1) 0)

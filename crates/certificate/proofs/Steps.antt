@@ -1,34 +1,40 @@
 -- The steps of loops over entries.
-use Rattle.std.proofs.Common.{◌≡◌, ℕ, ◌+◌, ◌<◌, ◌≤◌, Bool, true, false, cond, ◌||◌, List, [], ◌∷◌, ◌++◌, length, get_or, drop, is_some, Some, None, Option, sym, refl, ◌∙◌, inl, inr}
-use Rattle.std.proofs.lemmas.List.{at_drop_more, at_drop_all}
-use Rattle.std.proofs.lemmas.Bool.{cases_Bool, both_ways, cond-true, cond-false}
+use Rattle.std.proofs.Common.{◌≡◌, ℕ, zero, suc, ◌<◌, Bool, true, false, cond, ◌||◌, List, [], ◌∷◌, ◌++◌, length, is_some, Some, None, Option, Bor, refl, inl, inr, arith}
+use Rattle.std.specs.List.{find, AllWithin, HoldsAt}
+use Rattle.std.specs.Option.{MatchOption, option_copied}
+use Rattle.std.proofs.lemmas.Bool.{cases_Bool, both_ways}
 use Rattle.truth.specs.Truth.{any}
 use Rattle.truth.proofs.Members.{Mem, Mem.here, Mem.there}
-use Rattle.certificate.specs.Spans.{first_of}
 
--- A loop that stops at the first element that passes a test, at index i.
-module _ {A : Type 0} (p : A → Bool) (xs : List A) (i : ℕ) (o : Option A) (same : first_of p (drop i xs) ≡ o) where
-  first_here : (d : A) → i < length xs → cond (p (get_or xs i d)) (Some (get_or xs i d)) (first_of p (drop (i + 1) xs)) ≡ o
-  first_here d h = sym (at_drop_more (first_of p) xs i d h) ∙ same
+-- What a search over a slice comes to.
+module _ {A : Type 0} (p : A → Bool) where
+  abbrev Fails : A → Type 0
+  Fails x = p x ≡ false
 
-  pub first_stop : (d : A) → i < length xs → true ≡ p (get_or xs i d) → Some (get_or xs i d) ≡ o
-  first_stop d h e = sym (cond-true (p (get_or xs i d)) _ _ (sym e)) ∙ first_here d h
+  none_passes : (xs : List A) → AllWithin Fails xs 0 (length xs) → None ≡ find p xs
+  none_passes [] h = refl
+  none_passes (x ∷ xs) h = rw (h 0 x (omega arith) (omega arith)) (none_passes xs (λ k d a b. h (suc k) d (omega arith) (omega arith)))
 
-  pub first_more : (d : A) → i < length xs → false ≡ p (get_or xs i d) → first_of p (drop (i + 1) xs) ≡ o
-  first_more d h e = sym (cond-false (p (get_or xs i d)) _ _ (sym e)) ∙ first_here d h
+  first_passes : (xs : List A) (y : A) (i : ℕ) → p y ≡ true → i < length xs → HoldsAt (λ x. x ≡ y) xs i → AllWithin Fails xs 0 i → Some y ≡ find p xs
+  first_passes [] y i k l e h = absurd (omega arith)
+  first_passes (x ∷ xs) y zero k l e h = let same : x ≡ y = e x in rw (same, k) refl
+  first_passes (x ∷ xs) y (suc i) k l e h =
+      rw (h 0 x (omega arith) (omega arith)) (first_passes xs y i k (omega arith) (λ d. e d) (λ j d a b. h (suc j) d (omega arith) (omega arith)))
 
-  pub first_end : length xs ≤ i → None ≡ o
-  first_end h = sym (at_drop_all (first_of p) xs i h) ∙ same
+  pub first_found : (xs : List A) (r : Option (Bor A)) → MatchOption r (AllWithin Fails xs 0 (length xs)) (λ b. (p b.now ≡ true) × (i : ℕ) × (i < length xs) × HoldsAt (λ x. x ≡ b.now) xs i × AllWithin Fails xs 0 i) →
+      option_copied r ≡ find p xs
+  first_found xs None h = none_passes xs h
+  first_found xs (Some b) h = first_passes xs b.now h.1 h.0 h.2 h.3 h.4
 
 module _ {A : Type 0} (p : A → Bool) where
   -- Some element passes just where there is a first one.
-  pub first_some : (xs : List A) → is_some (first_of p xs) ≡ any p xs
+  pub first_some : (xs : List A) → is_some (find p xs) ≡ any p xs
   first_some [] = refl
   first_some (x ∷ xs) =
-      elim (p x) as (λ t. is_some (cond t (Some x) (first_of p xs)) ≡ (t || any p xs)) [ true ↦ refl | false ↦ first_some xs ]
+      elim (p x) as (λ t. is_some (cond t (Some x) (find p xs)) ≡ (t || any p xs)) [ true ↦ refl | false ↦ first_some xs ]
 
   -- The first one is a member, and passes.
-  pub first_member : (xs : List A) (x : A) → first_of p xs ≡ Some x → Mem x xs × (p x ≡ true)
+  pub first_member : (xs : List A) (x : A) → find p xs ≡ Some x → Mem x xs × (p x ≡ true)
   first_member [] x e = let z : ◌≡◌ {A = Bool} true false = cc in absurd (both_ways true z refl)
   first_member (y ∷ xs) x e =
       elim (cases_Bool (p y)) [
@@ -37,7 +43,7 @@ module _ {A : Type 0} (p : A → Bool) where
       ]
 
   -- What fails the test stands neither before nor behind the first that passes.
-  pub first_behind : (xs ys : List A) → any p xs ≡ false → first_of p (xs ++ ys) ≡ first_of p ys
+  pub first_behind : (xs ys : List A) → any p xs ≡ false → find p (xs ++ ys) ≡ find p ys
   first_behind [] ys e = refl
   first_behind (x ∷ xs) ys e =
       elim (cases_Bool (p x)) [
@@ -45,7 +51,7 @@ module _ {A : Type 0} (p : A → Bool) where
         | inr k ↦ rw k (first_behind xs ys (rw k at e))
       ]
 
-  pub first_before : (xs ys : List A) → any p ys ≡ false → first_of p (xs ++ ys) ≡ first_of p xs
+  pub first_before : (xs ys : List A) → any p ys ≡ false → find p (xs ++ ys) ≡ find p xs
   first_before [] [] e = refl
   first_before [] (y ∷ ys) e =
       elim (cases_Bool (p y)) [

@@ -7,7 +7,7 @@ use Rattle.truth.specs.Truth.{any, made_true, made_false, rest, rest_under, whol
 use Rattle.entries.specs.declared.entry.Entry.{Entry}
 use Rattle.entries.specs.declared.entry.Reply.{Reply}
 use Rattle.entries.specs.declared.entry.Reply.TheVariants.{None, Value}
-use Rattle.certificate.specs.declared.position.Assignment.{Assignment}
+use Rattle.truth.specs.declared.assignment.Assignment.{Assignment}
 use Rattle.certificate.specs.declared.position.Position.{Position}
 use Rattle.certificate.specs.declared.outcome.Outcome.{Outcome}
 use Rattle.certificate.specs.declared.outcome.Outcome.TheVariants.{Ended, Due}
@@ -51,7 +51,7 @@ Safe f v es p =
 -- verdict v to the outcome o. Any covering entry may lend its reply; a value that its block does not have is refused,
 -- and the next offer is looked at; where the offers end, the other side's value is due.
 pub data Played (f : Qbf) (v : Bool) (es : List Entry) : List Block → Position → List ℕ → Outcome → Type 0 where
-  ended : {p : Position} {vs : List ℕ} → Played f v es [] p vs (Ended p.set p.played.trues p.played.falses)
+  ended : {p : Position} {vs : List ℕ} → Played f v es [] p vs (Ended p.set p.played)
   waits : {b : Block} {bs : List Block} {p : Position} → owes v b.quantifier ≡ false → Played f v es (b ∷ bs) p [] (Due p.level)
   refused : {b : Block} {bs : List Block} {p : Position} {vs : List ℕ} {o : Outcome} (w : ℕ) →
       owes v b.quantifier ≡ false → 2 ^ length b.variables ≤ w → Played f v es (b ∷ bs) p vs o → Played f v es (b ∷ bs) p (w ∷ vs) o
@@ -63,7 +63,7 @@ pub data Played (f : Qbf) (v : Bool) (es : List Entry) : List Block → Position
 -- A play that has ended leaves no clause on true and at least one on false, and the clauses left are those that the
 -- assignment played leaves unsatisfied. One that has not waits for a value of the other side.
 abbrev pub Right : Qbf → Bool → Outcome → Type 0
-Right f v (Ended left t g) = ((left == 0) ≡ v) × (left ≡ rest f.matrix t g (whole f.matrix))
+Right f v (Ended left played) = ((left == 0) ≡ v) × (left ≡ rest f.matrix played.trues played.falses (whole f.matrix))
 Right f v (Due level) = value_due v (blocks_from f level) ≡ true
 
 -- Whatever is offered, every play by the entries comes out right, and there is one.

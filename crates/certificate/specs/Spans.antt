@@ -1,13 +1,8 @@
 -- Where among some entries those of each level stand.
-use Rattle.std.specs.Prelude.{◌≡◌, ℕ, ◌≤◌, Bool, false, cond, List, [], ◌∷◌, take, drop, Some, None, Option, ◌==◌, slice_index, slice_set}
+use Rattle.std.specs.Prelude.{◌≡◌, ℕ, ◌≤◌, Bool, false, cond, List, take, drop, ◌==◌, slice_index, slice_set}
 use Rattle.truth.specs.Limits.{max_blocks}
 use Rattle.truth.specs.Truth.{any}
 use Rattle.entries.specs.declared.entry.Entry.{Entry}
-
--- The first element that passes a test.
-abbrev pub first_of : {A : Type 0} → (A → Bool) → List A → Option A
-first_of p [] = None
-first_of p (x ∷ xs) = cond (p x) (Some x) (first_of p xs)
 
 abbrev pub at_level : ℕ → Entry → Bool
 at_level level e = e.level == level

@@ -5,24 +5,25 @@ ghost use Rattle.qbf.specs.Held.{qbf_of};
 ghost use Rattle.certificate.specs.Accepting.{blocks_from};
 ghost use Rattle.certificate.specs.Plays.{with_variable, assigned};
 
-use crate::position::Assignment;
 use qbf::formula::Formula;
+use truth::assignment::Assignment;
+use truth::literal::mask;
 
 // The assignment with one variable more.
 fn with_variable(played: Assignment, variable: u32, so: bool) -> Assignment
     requires { ranged max_variables variable ≡ true }
     ensures { result ≡ with_variable so variable played }
 {
-    let bit = 1 << (variable - 1);
+    let bit = mask(variable);
     if so {
         Assignment {
             trues: played.trues | bit,
-            falses: played.falses,
+            ..played
         }
     } else {
         Assignment {
-            trues: played.trues,
             falses: played.falses | bit,
+            ..played
         }
     }
 }

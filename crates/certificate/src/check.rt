@@ -1,5 +1,4 @@
-ghost use Rattle.std.specs.Prelude.{◌≡◌, ◌≤◌, true, is_ok, IfOk, OnOk, ◌==◌};
-ghost use Rattle.truth.specs.Sides.{agrees};
+ghost use Rattle.std.specs.Prelude.{◌≡◌, ◌≤◌, true, is_ok, IfOk, OnOk};
 ghost use Rattle.truth.specs.Truth.{holds};
 ghost use Rattle.truth.specs.Plain.{holds_plainly};
 ghost use Rattle.truth.specs.Verdicts.{is_true};
@@ -22,23 +21,13 @@ use truth::verdict::Verdict;
 // The line of a certificate in which its first entry stands.
 const FIRST_LINE: usize = 4;
 
-// Whether a position at the end, where no block is left, is covered.
-fn is_reached_at_end(verdict: Verdict, set: u128) -> bool
-    ensures { result ≡ agrees (is_true verdict) (set == 0) }
-{
-    match verdict {
-        Verdict::True => set == 0,
-        Verdict::False => set != 0,
-    }
-}
-
 // Whether a position is covered.
 fn is_reached(formula: &Formula, verdict: Verdict, index: &Index, level: usize, set: u128) -> bool
     requires { 1 ≤ level }
     ensures { result ≡ reached (is_true verdict) index.now.entries.now (blocks_from (qbf_of formula.now) level) level set }
 {
     if level > formula.blocks() {
-        return is_reached_at_end(verdict, set);
+        return Verdict::from(set == 0) == verdict;
     }
     index.covering(verdict, level, set).is_some()
 }
@@ -117,7 +106,7 @@ pub fn check<'a>(
 {
     let index = Index::of(entries);
     if !is_reached(formula, verdict, &index, 1, formula.root(verdict)) {
-        return Err(Fault::new(Cause::RootUncovered, 0));
+        return Err(Fault::from(Cause::RootUncovered));
     }
     for (i, entry) in entries.iter().enumerate() {
         if !is_supported(formula, verdict, &index, *entry) {

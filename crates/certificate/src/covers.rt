@@ -1,7 +1,6 @@
-ghost use Rattle.std.specs.Prelude.{◌≡◌};
+ghost use Rattle.std.specs.Prelude.{◌≡◌, find};
 ghost use Rattle.truth.specs.Verdicts.{is_true};
 ghost use Rattle.certificate.specs.Accepting.{covers};
-ghost use Rattle.certificate.specs.Spans.{first_of};
 
 use entries::entry::Entry;
 use truth::verdict::Verdict;
@@ -26,12 +25,10 @@ pub(crate) fn covering_entry(
     level: usize,
     set: u128,
 ) -> Option<Entry>
-    ensures { result ≡ first_of (covers (is_true verdict) level set) entries.now }
+    ensures { result ≡ find (covers (is_true verdict) level set) entries.now }
 {
-    for entry in entries {
-        if covers(*entry, verdict, level, set) {
-            return Some(*entry);
-        }
-    }
-    None
+    entries
+        .iter()
+        .find(|entry| covers(**entry, verdict, level, set))
+        .copied()
 }

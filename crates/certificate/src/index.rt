@@ -1,8 +1,8 @@
-ghost use Rattle.std.specs.Prelude.{◌≡◌, ◌+◌, ◌^◌, ◌<◌, ◌≤◌, length, set};
+ghost use Rattle.std.specs.Prelude.{◌≡◌, ◌+◌, ◌^◌, ◌<◌, ◌≤◌, length, set, find};
 ghost use Rattle.truth.specs.Limits.{max_blocks};
 ghost use Rattle.truth.specs.Verdicts.{is_true};
 ghost use Rattle.certificate.specs.Accepting.{covers};
-ghost use Rattle.certificate.specs.Spans.{Spanned, starts_with, first_of};
+ghost use Rattle.certificate.specs.Spans.{Spanned, starts_with};
 
 use crate::covers::covering_entry;
 use entries::entry::Entry;
@@ -58,7 +58,7 @@ impl<'a> Index<'a> {
     // The first entry that covers a position of a level that a formula can have.
     pub(crate) fn covering(&self, verdict: Verdict, level: usize, set: u128) -> Option<Entry>
         requires { level ≤ max_blocks }
-        ensures { result ≡ first_of (covers (is_true verdict) level set) self.now.entries.now }
+        ensures { result ≡ find (covers (is_true verdict) level set) self.now.entries.now }
     {
         let start = self.starts[level];
         let end = self.ends[level];

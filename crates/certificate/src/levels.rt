@@ -1,6 +1,5 @@
 // What a formula asks at a level, for either verdict.
 ghost use Rattle.std.specs.Prelude.{◌≡◌, ◌^◌, ◌≤◌, length, nat_lt};
-ghost use Rattle.truth.specs.Sides.{owes};
 ghost use Rattle.truth.specs.Verdicts.{is_true};
 ghost use Rattle.qbf.specs.Held.{qbf_of};
 ghost use Rattle.entries.specs.Fitting.{replies, fits};
@@ -11,19 +10,7 @@ use crate::mover::Mover;
 use entries::entry::{Entry, Reply};
 use qbf::formula::Formula;
 use truth::limits::MAX_CLAUSES;
-use truth::literal::Quantifier;
 use truth::verdict::Verdict;
-
-// Whether the holder of a verdict chooses the values of blocks with this quantifier.
-fn owes(verdict: Verdict, quantifier: Quantifier) -> bool
-    ensures { result ≡ owes (is_true verdict) quantifier }
-{
-    match (verdict, quantifier) {
-        (Verdict::True, Quantifier::Existential) => true,
-        (Verdict::False, Quantifier::Universal) => true,
-        _ => false,
-    }
-}
 
 // Who gives the value of the block at a level.
 pub(crate) fn mover_at(formula: &Formula, verdict: Verdict, level: usize) -> Mover
@@ -33,7 +20,7 @@ pub(crate) fn mover_at(formula: &Formula, verdict: Verdict, level: usize) -> Mov
     let Some(quantifier) = formula.quantifier(level) else {
         return Mover::Nobody;
     };
-    if owes(verdict, quantifier) {
+    if verdict.owes(quantifier) {
         Mover::Holder
     } else {
         Mover::Other

@@ -13,12 +13,13 @@ use crate::assign::assign;
 use crate::covers::covering_entry;
 use crate::levels::{is_value, mover_at};
 use crate::mover::Mover;
-use crate::position::{Assignment, Position};
+use crate::position::Position;
 use crate::turns::{Ended, HolderTurn, OtherTurn, Turn};
 use entries::entry::Reply;
 use faults::cause::Cause;
 use faults::fault::Fault;
 use qbf::formula::Formula;
+use truth::assignment::Assignment;
 
 // The turn at a safe position.
 fn arrive(game: Accepted, at: Position) -> Turn
@@ -100,7 +101,7 @@ impl<'a> OtherTurn<'a> {
         if !is_value(self.game.formula, self.at.level, value) {
             return Err(RefusedValue {
                 turn: self,
-                fault: Fault::new(Cause::BadValue, 0),
+                fault: Fault::from(Cause::BadValue),
             });
         }
         let next = move_on(self.game.formula, self.at, value);

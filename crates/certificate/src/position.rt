@@ -1,9 +1,4 @@
-// Variables that are true and variables that are false: variable v is bit v − 1.
-#[derive(Clone, Copy, PartialEq, Eq, Debug, Drop)]
-pub struct Assignment {
-    pub trues: u64,
-    pub falses: u64,
-}
+use truth::assignment::Assignment;
 
 // How far a play has come: the level whose value is next, the clauses not satisfied yet (clause c is bit c − 1), and the
 // values given so far.

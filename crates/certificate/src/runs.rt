@@ -18,11 +18,9 @@ pub fn play_all(game: Accepted, offers: &[u16]) -> Outcome
     loop {
         turn = match turn {
             Turn::Over(end) => {
-                let played = end.played();
                 return Outcome::Ended {
                     left: end.left(),
-                    trues: played.trues,
-                    falses: played.falses,
+                    played: end.played(),
                 };
             }
             Turn::Holder(holder) => {

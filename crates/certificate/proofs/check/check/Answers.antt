@@ -15,7 +15,7 @@ returns-then-not-is_supported c =
     let root = root_reached f v _ es c.of-index.ensures _ c.root.ensures c.if-not-is_reached.ensures in
     let fails = supported-same f v _ es c.of-index.ensures _ (get_or es i no_entry) c.if-not-is_supported.ensures in
     let stop = failing_stop (supported v f es) es i (i + 4) _ c.loop-i.invariant no_entry c.loop-i-test.true fails in
-    let so = refused_so f v es root _ (ap Some c.new-then-not-is_supported.ensures ∙ stop) in
+    let so = refused_so f v es root _ (ap Some c.new.ensures ∙ stop) in
     record { fault = so.0; accepts = so.1; keeps = tt; truth = tt }
 
 pub loop-i-preserved : goal.loop-i-preserved

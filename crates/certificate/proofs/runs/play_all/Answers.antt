@@ -8,7 +8,7 @@ loop-turn-init c = go_start c.args.game _ _ c.begin-turn.ensures.root
 
 pub returns-in-Over : goal.returns-in-Over
 returns-in-Over c =
-    let run = go_ended c.args.game _ _ _ c.loop-turn.invariant _ _ _ c.in-Over.is c.left.ensures.set c.played-played.ensures in
+    let run = go_ended c.args.game _ _ _ c.loop-turn.invariant _ _ _ c.in-Over.is c.left.ensures.set c.played.ensures in
     record { played = run; plays = c.begin-turn.ensures.plays; right = c.begin-turn.ensures.plays.right _ _ run }
 
 pub returns-in_default : goal.returns-in_default
