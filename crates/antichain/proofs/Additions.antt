@@ -6,7 +6,7 @@ use Rattle.antichain.specs.declared.store.AddAnswer.TheVariants.{Added, Full}
 use Rattle.antichain.specs.Entries.{Rules}
 use Rattle.antichain.specs.Lookups.{covered}
 use Rattle.antichain.specs.Adding.{uncovered, placed, answer_to, held_after}
-use Rattle.antichain.specs.Antichain.{Apart, Antichain}
+use Rattle.antichain.specs.Antichain.{ApartFrom, Apart, Antichain}
 use Rattle.antichain.specs.Layouts.{sorted}
 use Rattle.antichain.proofs.Members.{both_all}
 use Rattle.antichain.proofs.Kept.{length-kept, kept_same}
@@ -14,11 +14,14 @@ use Rattle.antichain.proofs.Sorting.{into_push, length-into, length-placed, kept
 use Rattle.antichain.proofs.Covering.{uncovered-all, apart_kept, apart_placed}
 
 module _ {E : Type 0} (c : E → E → Bool) where
-  pub apart_added : (b : E → E → Bool) (e : E) (xs : List E) → Apart c xs → covered c xs e ≡ false → Apart c (placed b e (uncovered c e xs))
-  apart_added b e xs a h =
+  -- e and what it would leave do not cover one another, where no entry covers e
+  pub apart_left : (e : E) (xs : List E) → covered c xs e ≡ false → ApartFrom c e (uncovered c e xs)
+  apart_left e xs h =
       let p : E → Bool = λ x. not (c e x) in
-      apart_placed c b e (uncovered c e xs) (apart_kept c p xs a)
-      (both_all _ _ (uncovered c e xs) (All-weaker _ _ (λ x k. not-true (c e x) k) (uncovered c e xs) (kept_by_passes p xs)) (all_kept_by p _ xs (uncovered-all c e xs h)))
+      both_all _ _ (uncovered c e xs) (All-weaker _ _ (λ x k. not-true (c e x) k) (uncovered c e xs) (kept_by_passes p xs)) (all_kept_by p _ xs (uncovered-all c e xs h))
+
+  pub apart_added : (b : E → E → Bool) (e : E) (xs : List E) → Apart c xs → covered c xs e ≡ false → Apart c (placed b e (uncovered c e xs))
+  apart_added b e xs a h = apart_placed c b e (uncovered c e xs) (apart_kept c (λ x. not (c e x)) xs a) (apart_left e xs h)
 
   pub apart_after : (b : E → E → Bool) (capacity : ℕ) (e : E) (xs : List E) → Apart c xs → Apart c (held_after c b capacity xs e)
   apart_after b capacity e xs a =

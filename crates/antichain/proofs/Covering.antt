@@ -5,8 +5,9 @@ use Rattle.std.proofs.ByRecursion.{all_kept_by}
 use Rattle.std.proofs.lemmas.Bool.{cond_both, cases_Bool, both_ways}
 use Rattle.antichain.specs.Lookups.{covered, Mem, Mem.here, Mem.there, Told}
 use Rattle.antichain.specs.Adding.{placed}
-use Rattle.antichain.specs.Antichain.{Apart}
+use Rattle.antichain.specs.Antichain.{ApartFrom, Apart}
 use Rattle.antichain.specs.Layouts.{sorted}
+use Rattle.antichain.proofs.Members.{Found}
 use Rattle.antichain.proofs.Kept.{mem_kept}
 use Rattle.antichain.proofs.Sorting.{all_placed, all-into, mem_into}
 
@@ -30,11 +31,15 @@ module _ {E : Type 0} (c : E → E → Bool) where
   apart_kept p (x ∷ xs) a =
       cond_both (p x) _ _ (Apart c) (λ _. (all_kept_by p _ xs a.0, apart_kept p xs a.1)) (λ _. apart_kept p xs a.1)
 
-  pub apart_placed : (b : E → E → Bool) (e : E) (ys : List E) → Apart c ys → AllByRecursion (λ y. (c e y ≡ false) × (c y e ≡ false)) ys → Apart c (placed b e ys)
+  pub apart_placed : (b : E → E → Bool) (e : E) (ys : List E) → Apart c ys → ApartFrom c e ys → Apart c (placed b e ys)
   apart_placed b e [] a h = (tt, tt)
   apart_placed b e (y ∷ ys) a h =
       cond_both (b e y) _ _ (Apart c) (λ _. (h, a))
       (λ _. (all_placed b _ e ys (h.0.1, h.0.0) a.0, apart_placed b e ys a.1 h.1))
+
+  pub told_found : (e : E) (xs : List E) (r : Option E) → Found (λ x. c x e) xs r → Told c xs e r
+  told_found e xs None h = covered-false e xs h
+  told_found e xs (Some x) h = h
 
   pub told_some : (xs : List E) (e : E) (r : Option E) → Told c xs e r → is_some r ≡ true → covered c xs e ≡ true
   told_some xs e None t h = absurd (both_ways false refl h)

@@ -3,7 +3,6 @@ use Rattle.std.proofs.Common.{◌≡◌, ℕ, ◌+◌, ◌-◌, ◌<◌, ◌≤�
 use lib.Seq.{paste}
 use Rattle.std.specs.List.{AllByRecursion}
 use Rattle.std.proofs.lemmas.List.{take-take, length-drop}
-use Rattle.std.proofs.ByRecursion.{All-weaker, kept_by_passes}
 use Rattle.std.proofs.lemmas.List.Edits.{take-paste}
 use Rattle.std.proofs.lemmas.Slice.{between_is}
 use Rattle.std.proofs.lemmas.Bool.{cases_Bool, not_from_false, not-false, cases_lt, cases_order, eq-eqb, ne_eqb, eqb-false, leb-true, leb-false, le-leb, lt-leb, lt-ltb, le-ltb, ltb-true}
@@ -12,12 +11,12 @@ use Rattle.antichain.specs.declared.store.AddAnswer.TheVariants.{Added, Full}
 use Rattle.antichain.specs.Entries.{Rules}
 use Rattle.antichain.specs.Lookups.{covered, Told}
 use Rattle.antichain.specs.Adding.{uncovered, above, placed, answer_to, held_after}
+use Rattle.antichain.specs.Antichain.{ApartFrom}
 use Rattle.antichain.specs.Layouts.{upto, Ordered, Laid}
-use Rattle.antichain.proofs.Canonical.{before_levels, before_by_level}
+use Rattle.antichain.proofs.Canonical.{before_levels}
 use Rattle.antichain.proofs.Kept.{length-kept, kept_same, kept_sure, kept_both, kept_alike, count_out, count_in}
 use Rattle.antichain.proofs.Sorting.{ordered_kept, ordered_placed, count_placed}
-use Rattle.antichain.proofs.Covering.{told_kept, apart_kept}
-use Rattle.antichain.proofs.Additions.{apart_added}
+use Rattle.antichain.proofs.Covering.{told_kept, apart_kept, apart_placed}
 
 module _ {E : Type 0} (v : E → ℕ) where
   pub upto_top : (n : ℕ) → ((x : E) → v x ≤ n) → (xs : List E) → upto v n xs ≡ xs
@@ -152,38 +151,6 @@ module _ {E : Type 0} {v s : E → ℕ} {c b : E → E → Bool} (w : Rules v s 
       pub gone_within : (k : ℕ) → l ≤ k → k ≤ max_level → (get_or starts max_level 0 - length (uncovered c e xs) ≤ get_or starts k 0) × (get_or starts k 0 ≤ get_or starts max_level 0)
       gone_within k m n = (omega (arith, count_left k m, h.counts k n, whole), ascend k max_level n (omega arith))
 
-      -- what is left of e's level stands together, ahead of all entries of higher levels
-      module _ (table : List E) (rest : ℕ) (kept : take rest table ≡ uncovered c e xs) (long : length (uncovered c e xs) ≡ rest) where
-        from_left : get_or starts (l - 1) 0 ≡ length (upto v (l - 1) (uncovered c e xs))
-        from_left = omega (arith, h.counts (l - 1) (omega (arith, w.most e)), count_same (l - 1) (omega (arith, w.least e)))
-
-        to_left : get_or starts l 0 - (get_or starts max_level 0 - rest) ≡ length (upto v l (uncovered c e xs))
-        to_left = omega (arith, h.counts l (omega (arith, w.most e)), count_left l (omega arith), whole, length-kept (λ x. not (c e x)) xs)
-
-        pub put_within : (get_or starts (l - 1) 0 ≤ get_or starts l 0 - (get_or starts max_level 0 - rest)) × (get_or starts l 0 - (get_or starts max_level 0 - rest) ≤ rest)
-        put_within = (
-          omega (arith, from_left, to_left, count_mono v (l - 1) l (omega arith) (uncovered c e xs)),
-          omega (arith, to_left, length-kept (λ x. leb (v x) l) (uncovered c e xs)),
-        )
-
-        pub put_first : AllByRecursion (λ x. b e x ≡ false) (take (get_or starts (l - 1) 0) table)
-        put_first =
-            let zs = uncovered c e xs in
-            let is : take (get_or starts (l - 1) 0) table ≡ upto v (l - 1) zs =
-            sym (take-take (get_or starts (l - 1) 0) rest table (omega (arith, put_within))) ∙ ap (take (get_or starts (l - 1) 0)) kept ∙
-            ap (λ n. take n zs) from_left ∙ (cut v b (before_levels w) (l - 1) zs (ordered_kept b _ xs h.ordered)).0 in
-            subst (AllByRecursion (λ x. b e x ≡ false)) (sym is)
-            (All-weaker _ _ (λ x k. (before_by_level w x e (omega (arith, leb-true (v x) (l - 1) k, w.least e))).1) (upto v (l - 1) zs) (kept_by_passes (λ x. leb (v x) (l - 1)) zs))
-
-        pub put_last : AllByRecursion (λ x. b e x ≡ true) (drop (get_or starts l 0 - (get_or starts max_level 0 - rest)) (take rest table))
-        put_last =
-            let zs = uncovered c e xs in
-            let is : drop (get_or starts l 0 - (get_or starts max_level 0 - rest)) (take rest table) ≡ above v l zs =
-            ap (drop (get_or starts l 0 - (get_or starts max_level 0 - rest))) kept ∙ ap (λ n. drop n zs) to_left ∙
-            (cut v b (before_levels w) l zs (ordered_kept b _ xs h.ordered)).1 in
-            subst (AllByRecursion (λ x. b e x ≡ true)) (sym is)
-            (All-weaker _ _ (λ x k. (before_by_level w e x (omega (arith, ltb-true l (v x) k))).0) (above v l zs) (kept_by_passes (λ x. ltb l (v x)) zs))
-
       -- what add answers and leaves, where there is no room and where there is
       pub full : covered c xs e ≡ false → cap ≤ length (uncovered c e xs) → (uncovered c e xs ≡ xs) × (Full ≡ answer_to c cap xs e) × (xs ≡ held_after c b cap xs e)
       full new k =
@@ -193,21 +160,37 @@ module _ {E : Type 0} {v s : E → ℕ} {c b : E → E → Bool} (w : Rules v s 
       pub room : covered c xs e ≡ false → length (uncovered c e xs) < cap → (Added ≡ answer_to c cap xs e) × (placed b e (uncovered c e xs) ≡ held_after c b cap xs e)
       room new k = let m : ltb (length (uncovered c e xs)) cap ≡ true = lt-ltb _ _ k in (simp (new, m), simp (new, m))
 
-      pub laid_in : (new : List ℕ)
-          → covered c xs e ≡ false → length (uncovered c e xs) < cap
+      -- the starts, once those that e covers are gone
+      pub laid_kept : (new : List ℕ)
           → ((k : ℕ) → k < l → get_or new k 0 ≡ get_or starts k 0)
-          → ((k : ℕ) → l ≤ k → k ≤ max_level → get_or new k 0 ≡ get_or starts k 0 - (get_or starts max_level 0 - length (uncovered c e xs)) + 1)
-          → Laid v c b cap new (placed b e (uncovered c e xs))
-      laid_in new fresh room below over = record {
-        fits = omega (arith, over max_level (omega (arith, w.most e)) (omega arith), whole, length-kept (λ x. not (c e x)) xs);
+          → ((k : ℕ) → l ≤ k → k ≤ max_level → get_or new k 0 ≡ get_or starts k 0 - (get_or starts max_level 0 - length (uncovered c e xs)))
+          → Laid v c b cap new (uncovered c e xs)
+      laid_kept new below over = record {
+        fits = omega (arith, over max_level (omega (arith, w.most e)) (omega arith), h.fits);
+        counts = λ k m. elim (cases_lt k l) [
+          | inl n ↦ omega (arith, below k n, h.counts k m, count_same k n)
+          | inr n ↦ omega (arith, over k n m, h.counts k m, count_left k n, whole, length-kept (λ x. not (c e x)) xs)
+        ];
+        ordered = ordered_kept b _ xs h.ordered;
+        apart = apart_kept c _ xs h.apart;
+      }
+
+      -- and once e is put into its place
+      pub laid_placed : (new : List ℕ)
+          → ApartFrom c e xs → get_or starts max_level 0 < cap
+          → ((k : ℕ) → k < l → get_or new k 0 ≡ get_or starts k 0)
+          → ((k : ℕ) → l ≤ k → k ≤ max_level → get_or new k 0 ≡ get_or starts k 0 + 1)
+          → Laid v c b cap new (placed b e xs)
+      laid_placed new fresh room below over = record {
+        fits = omega (arith, over max_level (omega (arith, w.most e)) (omega arith));
         counts = λ k m. elim (cases_lt k l) [
           | inl n ↦ let d : leb (v e) k ≡ false = lt-leb (v e) k (omega arith) in
-              omega (arith, below k n, h.counts k m, count_same k n, simp d at (count_placed b (λ x. leb (v x) k) e (uncovered c e xs)))
+              omega (arith, below k n, h.counts k m, simp d at (count_placed b (λ x. leb (v x) k) e xs))
           | inr n ↦ let d : leb (v e) k ≡ true = le-leb (v e) k (omega arith) in
-              omega (arith, over k n m, h.counts k m, count_left k n, whole, length-kept (λ x. not (c e x)) xs, simp d at (count_placed b (λ x. leb (v x) k) e (uncovered c e xs)))
+              omega (arith, over k n m, h.counts k m, simp d at (count_placed b (λ x. leb (v x) k) e xs))
         ];
-        ordered = ordered_placed w e _ (ordered_kept b _ xs h.ordered);
-        apart = apart_added c b e xs h.apart fresh;
+        ordered = ordered_placed w e xs h.ordered;
+        apart = apart_placed c b e xs h.apart fresh;
       }
 
     -- the entries of levels up to l are gone, and the rest was moved to the front

@@ -7,6 +7,7 @@ pub mod Covering
 pub mod Additions
 pub mod Compacting
 pub mod Placing
+pub mod Starts
 pub mod Grouping
 pub mod Rounds
 pub mod LawfulKinds

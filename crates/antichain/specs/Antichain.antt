@@ -2,10 +2,14 @@
 use Rattle.std.specs.Prelude.{◌≡◌, ℕ, ◌≤◌, Bool, true, false, List, [], ◌∷◌, length}
 use Rattle.std.specs.List.{AllByRecursion}
 
+-- None of the list covers e, or is covered by it.
+abbrev pub ApartFrom : {E : Type 0} → (E → E → Bool) → E → List E → Type 0
+ApartFrom covers e xs = AllByRecursion (λ x. (covers e x ≡ false) × (covers x e ≡ false)) xs
+
 -- None covers another.
 abbrev pub Apart : {E : Type 0} → (E → E → Bool) → List E → Type 0
 Apart covers [] = Unit {0}
-Apart covers (x ∷ xs) = AllByRecursion (λ y. (covers x y ≡ false) × (covers y x ≡ false)) xs × Apart covers xs
+Apart covers (x ∷ xs) = ApartFrom covers x xs × Apart covers xs
 
 -- Each comes before all that follow it.
 abbrev pub Ascending : {E : Type 0} → (E → E → Bool) → List E → Type 0

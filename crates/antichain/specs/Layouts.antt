@@ -1,6 +1,7 @@
 -- How the two stores lay their entries out in a table.
 use Rattle.std.specs.Prelude.{◌≡◌, ℕ, ◌≤◌, Bool, false, List, [], ◌∷◌, length, take, filter, nat_le, slice_index}
 use Rattle.std.specs.List.{AllByRecursion}
+use Rattle.antichain.specs.declared.entry.Entry as entry
 use Rattle.antichain.specs.Limits.{max_level, capacity_of}
 use Rattle.antichain.specs.Adding.{placed}
 use Rattle.antichain.specs.Antichain.{Apart}
@@ -39,3 +40,7 @@ pub record Laid {E : Type 0} (level : E → ℕ) (covers before : E → E → Bo
   pub counts : (k : ℕ) → k ≤ max_level → slice_index starts k ≡ length (upto level k xs)
   pub ordered : Ordered before xs
   pub apart : Apart covers xs
+
+-- What is so of a table that is kept by levels.
+abbrev pub Grouped : {E : Type 0} → entry.Ghosts E → List ℕ → List E → Type 0
+Grouped g starts table = Laid g.level g.covers g.before (capacity_of table) starts (grouped starts table)

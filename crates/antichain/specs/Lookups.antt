@@ -1,5 +1,5 @@
 -- What a look-up among entries tells.
-use Rattle.std.specs.Prelude.{◌≡◌, ℕ, zero, suc, Bool, true, false, cond, List, [], ◌∷◌, Some, None, Option}
+use Rattle.std.specs.Prelude.{◌≡◌, Bool, true, false, cond, List, [], ◌∷◌, Some, None, Option}
 
 -- Some entry of the list covers e.
 abbrev pub covered : {E : Type 0} → (E → E → Bool) → List E → E → Bool
@@ -14,9 +14,3 @@ pub data Mem {E : Type 0} (x : E) : List E → Type 0 where
 abbrev pub Told : {E : Type 0} → (E → E → Bool) → List E → E → Option E → Type 0
 Told covers xs e None = covered covers xs e ≡ false
 Told covers xs e (Some x) = Mem x xs × (covers x e ≡ true)
-
--- The k-th entry, k from 0.
-abbrev pub at : {E : Type 0} → List E → ℕ → Option E
-at [] k = None
-at (x ∷ xs) zero = Some x
-at (x ∷ xs) (suc k) = at xs k

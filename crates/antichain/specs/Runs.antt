@@ -1,5 +1,5 @@
 -- What lists of calls lead to.
-use Rattle.std.specs.Prelude.{◌≡◌, ℕ, List, [], ◌∷◌, length, Some}
+use Rattle.std.specs.Prelude.{◌≡◌, ℕ, List, [], ◌∷◌, length, Some, slice_get}
 use Rattle.std.specs.List.{AllByRecursion}
 use Rattle.antichain.specs.declared.calls.Call.{Call}
 use Rattle.antichain.specs.declared.calls.Call.TheVariants.{Cover, Add, DropLevels, Empty, Count, Nth}
@@ -7,7 +7,7 @@ use Rattle.antichain.specs.declared.calls.Answer.{Answer}
 use Rattle.antichain.specs.declared.calls.Answer.TheVariants.{Covers, Adds, Counts, Lists, Done}
 use Rattle.antichain.specs.declared.calls.Round.{Round}
 use Rattle.antichain.specs.declared.entry.Entry as entry
-use Rattle.antichain.specs.Lookups.{covered, at}
+use Rattle.antichain.specs.Lookups.{covered}
 use Rattle.antichain.specs.Adding.{answer_to, held_after, above}
 
 -- In each round both stores gave the same answer.
@@ -22,7 +22,7 @@ module _ {E : Type 0} (g : entry.Ghosts E) where
   answered capacity xs (DropLevels l) = Done
   answered capacity xs Empty = Done
   answered capacity xs Count = Counts (length xs)
-  answered capacity xs (Nth k) = Lists (at xs k)
+  answered capacity xs (Nth k) = Lists (slice_get xs k)
 
   abbrev pub leaves : ℕ → List E → Call E → List E
   leaves capacity xs (Cover e) = xs

@@ -1,12 +1,11 @@
-ghost use Rattle.std.specs.Prelude.{◌≡◌, ℕ, ◌+◌, ◌-◌, ◌<◌, ◌≤◌, Bool, List, [], length, filter};
+ghost use Rattle.std.specs.Prelude.{◌≡◌, ◌≤◌, List, [], length, filter, slice_get};
 ghost use Rattle.antichain.specs.Limits.{capacity_of};
-ghost use Rattle.antichain.specs.Lookups.{at};
 ghost use Rattle.antichain.specs.Antichain.{Apart};
 ghost use Rattle.antichain.specs.Layouts.{sorted, arrived, Arrived};
 
 use crate::entry::Entry;
 use crate::store::{AddAnswer, ListedStore, Store};
-use crate::table::{capacity_of, find_cover, keep_above, keep_uncovered};
+use crate::table::{capacity_of, find_cover, retain};
 
 // A store over a lent table: its entries are the first `len`, in the order of their arrival.
 #[derive(Drop)]
@@ -38,27 +37,24 @@ impl<'a, E: Entry> Store<E> for Arrivals<'a, E> {
     }
 
     fn cover(&self, e: &E) -> Option<E> {
-        find_cover(&self.table[0..self.len], e)
+        find_cover(&self.table[..self.len], e)
     }
 
     fn add(&mut self, e: E) -> AddAnswer {
         if self.cover(&e).is_some() {
             return AddAnswer::Covered;
         }
-        let len = self.len;
-        let rest = keep_uncovered(self.table, 0, len, len, &e);
-        self.len = rest;
-        if rest == capacity_of(self.table.len()) {
+        self.len = retain(&mut self.table[..self.len], |x| !e.covers(x));
+        if self.len == capacity_of(self.table.len()) {
             return AddAnswer::Full;
         }
-        self.table[rest] = e;
-        self.len = rest + 1;
+        self.table[self.len] = e;
+        self.len += 1;
         AddAnswer::Added
     }
 
     fn drop_levels(&mut self, l: u8) {
-        let len = self.len;
-        self.len = keep_above(self.table, len, l);
+        self.len = retain(&mut self.table[..self.len], |x| l < x.level());
     }
 }
 
@@ -68,32 +64,21 @@ impl<'a, E: Entry> ListedStore<E> for Arrivals<'a, E> {
     }
 
     fn nth(&self, k: usize) -> Option<E> {
-        find_rank(&self.table[0..self.len], k)
+        find_rank(&self.table[..self.len], k)
     }
 }
 
 // The entry that k others come before.
 fn find_rank<E: Entry>(entries: &[E], k: usize) -> Option<E>
     requires { Apart E.Entry.covers (sorted E.Entry.before entries.now) }
-    ensures { result ≡ at (sorted E.Entry.before entries.now) k }
+    ensures { result ≡ slice_get (sorted E.Entry.before entries.now) k }
 {
-    for x in entries {
-        if rank(entries, x) == k {
-            return Some(*x);
-        }
-    }
-    None
+    entries.iter().find(|x| rank(entries, x) == k).copied()
 }
 
 // How many entries come before x.
 fn rank<E: Entry>(entries: &[E], x: &E) -> usize
     ensures { result ≡ length (filter (λ y. E.Entry.before y x.now) entries.now) }
 {
-    let mut n = 0;
-    for y in entries {
-        if y.before(x) {
-            n += 1;
-        }
-    }
-    n
+    entries.iter().filter(|y| y.before(x)).count()
 }

@@ -86,15 +86,9 @@ fn play<E: Entry, P: ListedStore<E>, Q: ListedStore<E>>(
     ensures second { Q.Store.held q.new ≡ ran E.Entry (Q.Store.capacity q.old) (Q.Store.held q.old) rounds.old }
     ensures capacities { (P.Store.capacity p.new ≡ P.Store.capacity p.old) × (Q.Store.capacity q.new ≡ Q.Store.capacity q.old) }
 {
-    for i in 0..rounds.len() {
-        let call = rounds[i].call;
-        let first = Some(apply(p, &call));
-        let second = Some(apply(q, &call));
-        rounds[i] = Round {
-            call,
-            first,
-            second,
-        };
+    for round in rounds {
+        round.first = Some(apply(p, &round.call));
+        round.second = Some(apply(q, &round.call));
     }
 }
 

@@ -1,11 +1,13 @@
-ghost use Rattle.std.specs.Prelude.{◌≡◌, ℕ, ◌+◌, ◌-◌, ◌^◌, ◌<◌, ◌≤◌, Bool, List, [], length, filter, nat_eq, slice_index};
+ghost use Rattle.std.specs.Prelude.{◌≡◌, ℕ, ◌+◌, ◌-◌, ◌^◌, ◌<◌, ◌≤◌, false, List, [], length, map, filter, nat_eq, slice_index};
 ghost use Rattle.antichain.specs.Limits.{max_level, max_entries, capacity_of};
-ghost use Rattle.antichain.specs.Layouts.{grouped, Laid};
+ghost use Rattle.antichain.specs.Adding.{uncovered, placed};
+ghost use Rattle.antichain.specs.Antichain.{ApartFrom};
+ghost use Rattle.antichain.specs.Layouts.{grouped, Grouped};
 
 use crate::entry::Entry;
 use crate::limits::{MAX_LEVEL, STARTS};
 use crate::store::{AddAnswer, ListedStore, Store};
-use crate::table::{capacity_of, find_cover, item, keep_uncovered, put_in_order};
+use crate::table::{capacity_of, find_cover, put_in_order, retain};
 
 // A store over a lent table that keeps levels together:
 // the entries of level l, in canonical order, are table[starts[l - 1]..starts[l]].
@@ -18,7 +20,7 @@ pub struct Levels<'a, E: Entry> {
 impl<'a, E: Entry> Levels<'a, E> {
     // An empty store over the table.
     pub fn new(table: &'a mut [E]) -> Levels<'a, E>
-        ensures sound { Laid E.Entry.level E.Entry.covers E.Entry.before (capacity_of result.table.now) result.starts (grouped result.starts result.table.now) }
+        ensures sound { Grouped E.Entry result.starts result.table.now }
         ensures held { grouped result.starts result.table.now ≡ [] }
         ensures capacity { capacity_of result.table.now ≡ capacity_of table.old }
     {
@@ -30,13 +32,43 @@ impl<'a, E: Entry> Levels<'a, E> {
 
     // The entries of level l, which stand together.
     fn of_level(&self, l: u8) -> &[E]
-        requires sound { Laid E.Entry.level E.Entry.covers E.Entry.before (capacity_of self.now.table.now) self.now.starts (grouped self.now.starts self.now.table.now) }
+        requires sound { Grouped E.Entry self.now.starts self.now.table.now }
         requires level { (1 ≤ l) × (l ≤ max_level) }
         ensures { result.now ≡ filter (λ x. nat_eq (E.Entry.level x) l) (grouped self.now.starts self.now.table.now) }
     {
         let from = self.starts[l as usize - 1];
         let to = self.starts[l as usize];
         &self.table[from..to]
+    }
+
+    // Removes the entries that e covers, all of its level, and moves those behind them up.
+    fn remove_covered(&mut self, e: &E)
+        requires { Grouped E.Entry self.old.starts self.old.table.now }
+        ensures sound { Grouped E.Entry self.new.starts self.new.table.now }
+        ensures held { grouped self.new.starts self.new.table.now ≡ uncovered E.Entry.covers e.now (grouped self.old.starts self.old.table.now) }
+        ensures capacity { capacity_of self.new.table.now ≡ capacity_of self.old.table.now }
+    {
+        let l = e.level() as usize;
+        let from = self.starts[l - 1];
+        let to = self.starts[l];
+        let kept = from + retain(&mut self.table[from..to], |x| !e.covers(x));
+        if kept < to {
+            self.table.copy_within(to..self.starts[MAX_LEVEL], kept);
+            lower(&mut self.starts[l..], to - kept);
+        }
+    }
+
+    // Puts e into its place, where it covers no entry and none covers it.
+    fn insert(&mut self, e: E)
+        requires sound { Grouped E.Entry self.old.starts self.old.table.now }
+        requires apart { ApartFrom E.Entry.covers e (grouped self.old.starts self.old.table.now) }
+        requires room { slice_index self.old.starts max_level < capacity_of self.old.table.now }
+        ensures sound { Grouped E.Entry self.new.starts self.new.table.now }
+        ensures held { grouped self.new.starts self.new.table.now ≡ placed E.Entry.before e (grouped self.old.starts self.old.table.now) }
+        ensures capacity { capacity_of self.new.table.now ≡ capacity_of self.old.table.now }
+    {
+        put_in_order(self.table, self.starts[MAX_LEVEL], e);
+        raise(&mut self.starts[e.level() as usize..]);
     }
 }
 
@@ -45,7 +77,7 @@ impl<'a, E: Entry> Store<E> for Levels<'a, E> {
 
     ghost held = { λ s. grouped s.starts s.table.now };
 
-    ghost sound = { λ s. Laid E.Entry.level E.Entry.covers E.Entry.before (capacity_of s.table.now) s.starts (grouped s.starts s.table.now) };
+    ghost sound = { λ s. Grouped E.Entry s.starts s.table.now };
 
     fn empty(&mut self) {
         self.starts = [0; STARTS];
@@ -59,25 +91,18 @@ impl<'a, E: Entry> Store<E> for Levels<'a, E> {
         if self.cover(&e).is_some() {
             return AddAnswer::Covered;
         }
-        let l = e.level() as usize;
-        let from = self.starts[l - 1];
-        let to = self.starts[l];
-        let len = self.starts[MAX_LEVEL];
-        let rest = keep_uncovered(self.table, from, to, len, &e);
-        if rest == capacity_of(self.table.len()) {
+        self.remove_covered(&e);
+        if self.count() == capacity_of(self.table.len()) {
             return AddAnswer::Full;
         }
-        let gone = len - rest;
-        put_in_order(self.table, from, to - gone, rest, e);
-        one_more(&mut self.starts, l, gone);
+        self.insert(e);
         AddAnswer::Added
     }
 
     fn drop_levels(&mut self, l: u8) {
         let gone = self.starts[(l as usize).min(MAX_LEVEL)];
-        let len = self.starts[MAX_LEVEL];
-        self.table.copy_within(gone..len, 0);
-        less(&mut self.starts, gone);
+        self.table.copy_within(gone..self.starts[MAX_LEVEL], 0);
+        lower(&mut self.starts, gone);
     }
 }
 
@@ -87,26 +112,25 @@ impl<'a, E: Entry> ListedStore<E> for Levels<'a, E> {
     }
 
     fn nth(&self, k: usize) -> Option<E> {
-        item(&self.table[0..self.starts[MAX_LEVEL]], k)
-    }
-}
-
-// From place l on, takes `gone` off each start, and adds one.
-fn one_more(starts: &mut [usize; STARTS], l: usize, gone: usize)
-    requires { (k : ℕ) → l ≤ k → k ≤ max_level → (gone ≤ slice_index starts.old k) × (slice_index starts.old k ≤ max_entries) }
-    ensures below { (k : ℕ) → k < l → slice_index starts.new k ≡ slice_index starts.old k }
-    ensures above { (k : ℕ) → l ≤ k → k ≤ max_level → slice_index starts.new k ≡ slice_index starts.old k - gone + 1 }
-{
-    for i in l..STARTS {
-        starts[i] = starts[i] - gone + 1;
+        self.table[..self.count()].get(k).copied()
     }
 }
 
 // Takes `gone` off each start, or all of it.
-fn less(starts: &mut [usize; STARTS], gone: usize)
-    ensures { (k : ℕ) → k ≤ max_level → slice_index starts.new k ≡ slice_index starts.old k - gone }
+fn lower(starts: &mut [usize], gone: usize)
+    ensures { starts.new ≡ map (λ n. n - gone) starts.old }
 {
-    for i in 0..STARTS {
-        starts[i] = starts[i].saturating_sub(gone);
+    for start in starts {
+        *start = start.saturating_sub(gone);
+    }
+}
+
+// Adds one to each start.
+fn raise(starts: &mut [usize])
+    requires { (k : ℕ) → slice_index starts.old k ≤ max_entries }
+    ensures { starts.new ≡ map (λ n. n + 1) starts.old }
+{
+    for start in starts {
+        *start += 1;
     }
 }

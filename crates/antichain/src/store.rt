@@ -1,6 +1,6 @@
-ghost use Rattle.std.specs.Prelude.{◌≡◌, ℕ, ◌≤◌, List, [], length};
+ghost use Rattle.std.specs.Prelude.{◌≡◌, ℕ, ◌≤◌, List, [], length, slice_get};
 ghost use Rattle.antichain.specs.Limits.{max_entries};
-ghost use Rattle.antichain.specs.Lookups.{Told, covered, at};
+ghost use Rattle.antichain.specs.Lookups.{Told, covered};
 ghost use Rattle.antichain.specs.Adding.{answer_to, held_after, above};
 
 use crate::entry::Entry;
@@ -61,7 +61,7 @@ pub trait ListedStore<E: Entry>: Store<E> {
     // The k-th entry in canonical order, k from 0, or none.
     fn nth(&self, k: usize) -> Option<E>
         requires { Self.Store.sound self.now }
-        ensures { result ≡ at (Self.Store.held self.now) k };
+        ensures { result ≡ slice_get (Self.Store.held self.now) k };
 }
 
 // Whether some entry covers e. What makes the store sound is said at the trait.

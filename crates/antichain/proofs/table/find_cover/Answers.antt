@@ -1,21 +1,14 @@
-use Rattle.std.proofs.Common.{◌≡◌, false, sym, subst}
-use Rattle.std.specs.List.{AllByRecursion}
-use Rattle.std.proofs.lemmas.List.{take_all}
-use Rattle.std.proofs.ByRecursion.{All-more}
-use Rattle.antichain.proofs.Members.{mem_read}
-use Rattle.antichain.proofs.Covering.{covered-false}
+use Rattle.std.proofs.Common.{rules, tests, ◌≡◌, find, ◌∙◌, sym, subst}
+use Rattle.std.proofs.lemmas.Iterator.{YieldsList-from_slice}
+use Rattle.std.proofs.lemmas.Iterator.Search.{find_from_yields_List}
+use Rattle.antichain.proofs.Members.{Found, found}
+use Rattle.antichain.proofs.Covering.{told_found}
 use Rattle.antichain.proofs.table.find_cover.Goals as goal
-
-pub returns-then-covers : goal.returns-then-covers
-returns-then-covers g c = (mem_read _ _ c.x-item.result c.loop-x-test.true c.x-item.is, sym c.if-covers.ensures)
-
-pub loop-x-preserved : goal.loop-x-preserved
-loop-x-preserved g c =
-    let P = λ (y : g.row.E.Denot). g.E.Entry.covers y c.args.e.now ≡ false in
-    All-more P c.args.entries.now c.loop-x.x-index c.x-item.result c.loop-x-test.true c.loop-x.invariant
-    (subst P c.x-item.is (sym c.if-covers.ensures))
 
 pub returns : goal.returns
 returns g c =
-    let P = λ (y : g.row.E.Denot). g.E.Entry.covers y c.args.e.now ≡ false in
-    covered-false g.E.Entry.covers c.args.e.now _ (subst (AllByRecursion P) (take_all c.loop-x.x-index c.args.entries.now c.loop-x-test.false) c.loop-x.invariant)
+    let p = λ (x : g.row.E.Denot). g.E.Entry.covers x c.args.e.now in
+    let xs = c.args.entries.now in
+    let is : c.copied.result ≡ find p xs =
+    c.copied.ensures ∙ find_from_yields_List p _ _ _ c.find.ensures.ran (YieldsList-from_slice xs cc) (λ x b q k. search (rules, tests)) in
+    told_found g.E.Entry.covers c.args.e.now xs _ (subst (Found p xs) (sym is) (found p xs))

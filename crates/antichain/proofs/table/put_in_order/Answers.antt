@@ -1,23 +1,14 @@
-use Rattle.std.proofs.Common.{◌≡◌, false, take, sym, ◌∙◌, subst, arith}
-use Rattle.std.specs.List.{AllByRecursion}
-use Rattle.std.proofs.lemmas.List.{take-take}
-use Rattle.antichain.specs.Layouts.{Ordered}
-use Rattle.antichain.proofs.Placing.{shifted_front, shifted_placed, ordered_take}
+use Rattle.std.proofs.Common.{rules, ◌≤◌, not, take, ◌∙◌, arith, length-take}
+use Rattle.std.proofs.lemmas.List.Sorted.{IsPartitionPoint-from_clause}
+use Rattle.antichain.proofs.Placing.{put_at, placed_at, parted}
 use Rattle.antichain.proofs.table.put_in_order.Goals as goal
-
-pub settle-requires : goal.settle-requires
-settle-requires g c =
-    let b = g.E.Entry.before in
-    let xs = c.args.table.now in
-    let to = c.args.to in
-    let front = shifted_front b c.args.e xs c.copy_within.new.self to c.args.len c.requires.within.1 c.requires.within.2 c.copy_within.ensures.after in
-    record {
-      within = (c.requires.within.0, omega (arith, c.requires.within, c.copy_within.ensures.len));
-      ordered = subst (Ordered b) (take-take to c.args.len xs c.requires.within.1 ∙ sym (front to (omega arith))) (ordered_take b to (take c.args.len xs) c.requires.ordered);
-      first = subst (AllByRecursion (λ x. b c.args.e x ≡ false)) (sym (front c.args.from c.requires.within.0)) c.requires.first;
-    }
 
 pub returns : goal.returns
 returns g c =
-    shifted_placed g.E.Entry.before c.args.e c.args.table.now c.copy_within.new.self c.args.to c.args.len c.requires.within.1 c.requires.within.2 c.copy_within.ensures.after
-    c.settle.new.table c.settle.ensures.placed c.settle.ensures.beyond c.requires.last
+    let b = g.E.Entry.before in
+    let xs = take c.args.len c.args.table.now in
+    let i = c.partition_point-at.result in
+    let at = IsPartitionPoint-from_clause (λ x. not (b c.args.e x)) xs i c.partition_point-at.ensures.partitioned (parted g.met.E.Entry.rules c.args.e xs c.requires.ordered) (λ a r f k. search rules) in
+    let within : i ≤ c.args.len = omega (arith, c.partition_point-at.ensures.bound, length-take c.args.len c.args.table.now) in
+    rw c.copy_within.ensures.after
+    (put_at b c.args.e c.args.table.now i c.args.len within c.requires.room ∙ placed_at b c.args.e xs i (omega (arith, c.partition_point-at.ensures.bound)) at.0 at.1)

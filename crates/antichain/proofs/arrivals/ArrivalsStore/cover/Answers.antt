@@ -1,9 +1,8 @@
 use Rattle.std.proofs.Common.{take}
-use native.Mathlib.Nat.{sub-zero}
 use Rattle.antichain.proofs.Covering.{told_sorted}
 use Rattle.antichain.proofs.arrivals.ArrivalsStore.cover.Goals as goal
 
 pub returns : goal.returns
 returns g c =
     let s = c.args.self.now in
-    told_sorted g.E.Entry.before g.E.Entry.covers (take s.len s.table.now) c.args.e.now c.find_cover.result (simp sub-zero at c.find_cover.ensures)
+    told_sorted g.E.Entry.before g.E.Entry.covers (take s.len s.table.now) c.args.e.now c.find_cover.result c.find_cover.ensures

@@ -1,7 +1,8 @@
-use Rattle.std.proofs.Common.{◌≡◌, ltb, take, sym, ap, ◌∙◌, subst, arith}
+use Rattle.std.proofs.Common.{rules, ◌≡◌, ◌++◌, ltb, take, drop, sym, ap, ◌∙◌, subst, arith, length-take}
 use Rattle.antichain.specs.Adding.{above}
 use Rattle.antichain.specs.Antichain.{Apart}
 use Rattle.antichain.specs.Layouts.{sorted}
+use Rattle.antichain.proofs.Compacting.{front-long, front-kept}
 use Rattle.antichain.proofs.Sorting.{kept-sorted}
 use Rattle.antichain.proofs.Covering.{apart_kept}
 use Rattle.antichain.proofs.arrivals.ArrivalsStore.drop_levels.Goals as goal
@@ -11,10 +12,14 @@ returns g c =
     let s = c.args.self.now in
     let b = g.E.Entry.before in
     let p = λ (x : g.row.E.Denot). ltb c.args.l (g.E.Entry.level x) in
-    let f : sorted b (take c.keep_above-self.result c.keep_above-self.new.table) ≡ above g.E.Entry.level c.args.l (sorted b (take s.len s.table.now)) =
-    ap (sorted b) c.keep_above-self.ensures.kept ∙ sym (kept-sorted g.met.E.Entry.rules p (take s.len s.table.now)) in
+    let q = c.retain-self in
+    let xs = take s.len s.table.now in
+    let long = front-long s.len s.table.now q.new.items q.auto.items in
+    let kept = front-kept s.len s.table.now q.new.items q.auto.items q.result q.ensures.fewer (q.ensures.kept p (λ x r h. search rules)) in
+    let f : sorted b (take q.result (q.new.items ++ drop s.len s.table.now)) ≡ above g.E.Entry.level c.args.l (sorted b xs) =
+    ap (sorted b) kept ∙ sym (kept-sorted g.met.E.Entry.rules p xs) in
     record {
-      sound = record { fits = omega (arith, c.keep_above-self.ensures.fewer, c.keep_above-self.auto.table, c.requires.fits); apart = subst (Apart g.E.Entry.covers) (sym f) (apart_kept g.E.Entry.covers p _ c.requires.apart) };
+      sound = record { fits = omega (arith, long, q.ensures.fewer, length-take s.len s.table.now, c.requires.fits); apart = subst (Apart g.E.Entry.covers) (sym f) (apart_kept g.E.Entry.covers p _ c.requires.apart) };
       held = f;
-      capacity = omega (arith, c.keep_above-self.auto.table);
+      capacity = omega (arith, long);
     }

@@ -1,0 +1,5 @@
+use Rattle.std.proofs.Common.{◌≡◌, ◌-◌, ◌++◌, map, take, drop}
+use Rattle.antichain.proofs.levels.lower.Given as goal
+
+abbrev pub invariant-loop-start : goal.invariant-loop-start
+invariant-loop-start l = l.start-items ≡ map (λ n. n - l.gone) (take l.start-index l.initial.start-items) ++ drop l.start-index l.initial.start-items

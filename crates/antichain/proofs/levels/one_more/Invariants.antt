@@ -1,5 +1,0 @@
-use Rattle.std.proofs.Common.{◌≡◌, ℕ, ◌+◌, ◌-◌, ◌<◌, ◌≤◌, get_or}
-use Rattle.antichain.proofs.levels.one_more.Given as goal
-
-abbrev pub invariant-loop-i : goal.invariant-loop-i
-invariant-loop-i l = ((k : ℕ) → l.l ≤ k → k < l.i → get_or l.starts k 0 ≡ get_or l.initial.starts k 0 - l.gone + 1) × ((k : ℕ) → k < l.l → get_or l.starts k 0 ≡ get_or l.initial.starts k 0) × ((k : ℕ) → l.i ≤ k → get_or l.starts k 0 ≡ get_or l.initial.starts k 0)

@@ -1,0 +1,10 @@
+use Rattle.std.proofs.Common.{◌+◌, get_or, sym, arith}
+use Rattle.std.proofs.lemmas.List.Edits.{map_over_more}
+use Rattle.std.proofs.lemmas.Grind.{get_or_default_zero}
+use Rattle.antichain.proofs.levels.raise.Goals as goal
+
+pub loop-start-preserved : goal.loop-start-preserved
+loop-start-preserved c =
+    let s = c.loop-start in
+    map_over_more (λ n. n + 1) c.args.starts.now s.start-items s.start-index (get_or s.start-items s.start-index 0) (omega arith) s.invariant
+    (sym (get_or_default_zero s.start-items s.start-index _ (omega arith)))
