@@ -1,6 +1,7 @@
 -- Every entry that is read fits the formula.
 use Rattle.std.proofs.Common.{◌≡◌, ℕ, zero, suc, ◌+◌, ◌-◌, ◌*◌, ◌^◌, ◌<◌, ◌≤◌, Bool, true, cond, not, ◌&&◌, eqb, ltb, leb, List, [], ◌∷◌, ◌++◌, length, take, drop, IfOk, Some, None, Ok, Err, Option, Result, sym, refl, ap, ◌∙◌, subst, inl, inr, mul-le-mul_right, mul_assoc, mul_comm, pow-suc, arith}
 use native.Mathlib.Nat.{pow-le-pow_right}
+use Rattle.std.specs.List.{list_all}
 use Rattle.std.specs.Option.{ok_or}
 use Rattle.std.proofs.lemmas.List.{take_at}
 use Rattle.std.proofs.lemmas.Bool.{ltb-true, leb-true, lt-ltb, le-leb, eqb-true, and_parts, and_from, or_cases, both_ways, cond_both}
@@ -25,7 +26,7 @@ use Rattle.entries.specs.Fitting.{replies, fits}
 use Rattle.certificate_text.specs.declared.read.Certificate.{Certificate}
 use Rattle.certificate_text.specs.SetField.{is_dash, clauses_of, ascending, set_of, set_up_to, take_set}
 use Rattle.certificate_text.specs.ReplyField.{is_bit, reply_formed, binary, reply_of, take_reply}
-use Rattle.certificate_text.specs.Parse.{EntryFields, entry_fields, read_entry, Parsed, entry_lines, stopped, filled, from, heading_line, verdict_line, parse_certificate}
+use Rattle.certificate_text.specs.Parse.{EntryFields, entry_fields, read_entry, Parsed, entry_lines, stopped, filled, from, heading_line, verdict_words, entry_words, verdict_line, parse_certificate}
 use Rattle.certificate_text.proofs.SetSteps.{twice}
 
 -- A set of ascending clauses above `last` leaves room for one of all clauses up to it.
@@ -47,7 +48,7 @@ set_below highest cs a = omega (arith, ascending-below highest 0 cs (omega arith
 bit_low : (b : ℕ) → is_bit b ≡ true → b - 48 < 2
 bit_low b h = elim (or_cases (eqb b 48) _ h) [ inl e ↦ omega (arith, eqb-true b 48 e) | inr e ↦ omega (arith, eqb-true b 49 e) ]
 
-binary-below : (n : ℕ) (bs : List ℕ) → all is_bit bs ≡ true → binary n bs < (n + 1) * 2 ^ length bs
+binary-below : (n : ℕ) (bs : List ℕ) → list_all is_bit bs ≡ true → binary n bs < (n + 1) * 2 ^ length bs
 binary-below n [] h = omega arith
 binary-below n (b ∷ bs) h =
     let p = and_parts (is_bit b) _ h in
@@ -59,7 +60,7 @@ binary-below n (b ∷ bs) h =
     let two : (n + 1) * 2 ^ length (b ∷ bs) ≡ (n + 1) * 2 * P = ap (λ k. (n + 1) * k) (pow-suc 2 (length bs) ∙ mul_comm P 2) ∙ sym (mul_assoc (n + 1) 2 P) in
     omega arith
 
-pub value_below : (bs : List ℕ) → all is_bit bs ≡ true → binary 0 bs < 2 ^ length bs
+pub value_below : (bs : List ℕ) → list_all is_bit bs ≡ true → binary 0 bs < 2 ^ length bs
 value_below bs h = omega (arith, binary-below 0 bs h)
 
 -- The reply is as it is due.
@@ -72,7 +73,7 @@ reply_fits v b bs w r formed e =
     (λ t e.
     let p = and_parts (owes v b.quantifier) _ t in
     let is : Value (binary 0 w) ≡ r = cc in
-    let bits : all is_bit w ≡ true = elim (or_cases (is_dash w) _ formed) [ inl y ↦ absurd (both_ways (is_dash w) d y) | inr y ↦ (and_parts (ltb 0 (length w)) _ y).1 ] in
+    let bits : list_all is_bit w ≡ true = elim (or_cases (is_dash w) _ formed) [ inl y ↦ absurd (both_ways (is_dash w) d y) | inr y ↦ (and_parts (ltb 0 (length w)) _ y).1 ] in
     let low = value_below w bits in
     rw (← is) (and_from _ _ p.0 (lt-ltb _ _ (rw (← eqb-true _ _ p.1) low))))
     (λ _ e. absurd (none-some e)))
@@ -152,8 +153,8 @@ from_ok (Err d) on c e go = absurd (err_ok e)
 pub certificate_fits : (f : Qbf) (places : ℕ) (text : List ℕ) (c : Certificate) → (parse_certificate f places text).ending ≡ Ok c →
     (all (fits (is_true c.verdict) f) (parse_certificate f places text).entries ≡ true) × (c.count ≡ length (parse_certificate f places text).entries)
 certificate_fits f places text c e =
-    from_ok (heading_line 1 _ _ _ (lines_of text)) _ c e (λ second _ i e. from_ok (verdict_line 2 f second) _ c e (λ v _ j e.
-    from_ok (heading_line 3 _ _ _ v.1) _ c e (λ lines _ k e.
+    from_ok (heading_line 1 verdict_words (lines_of text)) _ c e (λ second _ i e. from_ok (verdict_line 2 f second) _ c e (λ v _ j e.
+    from_ok (heading_line 3 entry_words v.1) _ c e (λ lines _ k e.
     let is = i ∙ j ∙ k in
     let fit = entries_fit 4 f v.0 places [] lines refl in
     let told = fit.1 c e in

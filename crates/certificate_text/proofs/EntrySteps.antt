@@ -12,7 +12,7 @@ use Rattle.truth.specs.Verdicts.{is_true}
 use Rattle.formula_text.specs.Parse.{fault}
 use Rattle.entries.specs.declared.entry.Entry.{Entry}
 use Rattle.certificate_text.specs.declared.read.Certificate.{Certificate}
-use Rattle.certificate_text.specs.Parse.{read_entry, Parsed, heading_line, verdict_line, parse_certificate, entry_lines, stopped, filled}
+use Rattle.certificate_text.specs.Parse.{read_entry, Parsed, heading_line, verdict_words, verdict_line, parse_certificate, entry_lines, stopped, filled}
 
 -- A table whose places from the count on are those of another.
 table_filled : (table old : List Entry) (count : ℕ) → drop count table ≡ drop count old → count ≤ length table → table ≡ filled (take count table) old
@@ -61,9 +61,9 @@ module _ (n : ℕ) (f : Qbf) (v : Verdict) (places : ℕ) (table old : List Entr
 
 -- A refusal of the second line.
 pub verdict_refused : (f : Qbf) (places : ℕ) (text rest : List ℕ) (ls : List (List ℕ)) (n m : ℕ) (e : Fault) → n ≡ 0 → rest ≡ text →
-    heading_line (n + 1) (codes "verdict") (codes "blocks") (codes "clauses") (lines_of rest) ≡ Ok ls → m ≡ n + 1 → verdict_line (m + 1) f ls ≡ Err e → parse_certificate f places text ≡ stopped e []
+    heading_line (n + 1) verdict_words (lines_of rest) ≡ Ok ls → m ≡ n + 1 → verdict_line (m + 1) f ls ≡ Err e → parse_certificate f places text ≡ stopped e []
 verdict_refused f places text rest ls n m e z t h k v =
-    let first : heading_line 1 (codes "verdict") (codes "blocks") (codes "clauses") (lines_of text) ≡ Ok ls = subst (λ x. heading_line (x + 1) (codes "verdict") (codes "blocks") (codes "clauses") (lines_of text) ≡ Ok ls) z (subst (λ x. heading_line (n + 1) (codes "verdict") (codes "blocks") (codes "clauses") (lines_of x) ≡ Ok ls) t h) in
+    let first : heading_line 1 verdict_words (lines_of text) ≡ Ok ls = subst (λ x. heading_line (x + 1) verdict_words (lines_of text) ≡ Ok ls) z (subst (λ x. heading_line (n + 1) verdict_words (lines_of x) ≡ Ok ls) t h) in
     let m-is : m ≡ 1 = omega arith in
     let second : verdict_line 2 f ls ≡ Err e = subst (λ x. verdict_line (x + 1) f ls ≡ Err e) m-is v in
     rw (first, second)

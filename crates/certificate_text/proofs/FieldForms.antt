@@ -1,11 +1,11 @@
 -- The fields that are read are those that would be written.
 use Rattle.std.proofs.Common.{◌≡◌, ℕ, zero, suc, ◌+◌, ◌-◌, ◌*◌, ◌/◌, ◌%◌, ◌^◌, ◌<◌, ◌≤◌, Bool, true, false, ◌&&◌, eqb, ltb, leb, List, [], ◌∷◌, ◌++◌, map, length, Some, codes, decimal, Option, sym, refl, ap, ◌∙◌, ap₂, inl, inr, mul_assoc, add-mul, one-mul, zero-mul, mul-one, mul-div_cancel, arith, pow_pos, pow-add}
+use Rattle.std.specs.List.{list_all}
 use Rattle.std.proofs.lemmas.List.{append-nil}
 use Rattle.std.proofs.lemmas.Bool.{cases_eq, cond_both, eq-eqb, ne_eqb, eqb-true, lt-ltb, ltb-true, leb-true, and_parts, and_from, or_cases, both_ways}
 use Rattle.text.specs.Numeral.{numeral}
 use Rattle.text.specs.Rows.{onto}
 use Rattle.text.proofs.Decimal.{numeral-made}
-use Rattle.truth.specs.WellFormed.{all}
 use Rattle.formula_text.proofs.LiteralForms.{none-some, then_some, cond_cases}
 use Rattle.entries.specs.declared.entry.Reply.{Reply}
 use Rattle.entries.specs.declared.entry.Reply.TheVariants.{None as NoReply, Value}
@@ -174,7 +174,7 @@ bit_value b c h k m n e =
       ])
     ]
 
-same_bits : (m n : ℕ) (bs cs : List ℕ) → all is_bit bs ≡ true → all is_bit cs ≡ true → length bs ≡ length cs → binary m bs ≡ binary n cs → (bs ≡ cs) × (m ≡ n)
+same_bits : (m n : ℕ) (bs cs : List ℕ) → list_all is_bit bs ≡ true → list_all is_bit cs ≡ true → length bs ≡ length cs → binary m bs ≡ binary n cs → (bs ≡ cs) × (m ≡ n)
 same_bits m n [] [] h k l e = (refl, e)
 same_bits m n [] (c ∷ cs) h k l e = absurd (omega arith)
 same_bits m n (b ∷ bs) [] h k l e = absurd (omega arith)
@@ -192,7 +192,7 @@ reply_made owed width w r formed e =
     (λ d e. cond_cases (owed && eqb (length w) width) _ _ _ e (λ t e.
     let is : Value (binary 0 w) ≡ r = cc in
     let size = eqb-true (length w) width (and_parts owed _ t).1 in
-    let bits : all is_bit w ≡ true = elim (or_cases (is_dash w) _ formed) [ inl y ↦ absurd (both_ways (is_dash w) d y) | inr y ↦ (and_parts (ltb 0 (length w)) _ y).1 ] in
+    let bits : list_all is_bit w ≡ true = elim (or_cases (is_dash w) _ formed) [ inl y ↦ absurd (both_ways (is_dash w) d y) | inr y ↦ (and_parts (ltb 0 (length w)) _ y).1 ] in
     let low : binary 0 w < 2 ^ width = rw (← size) (value_below w bits) in
     rw (← is) (same_bits 0 0 w (binary_text width (binary 0 w)) bits (binary_bits width (binary 0 w)) (size ∙ sym (length-binary width (binary 0 w))) (sym (binary_read width (binary 0 w) low))).0)
     (λ _ e. absurd (none-some e)))

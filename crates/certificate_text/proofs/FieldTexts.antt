@@ -1,6 +1,7 @@
 -- The fields that are written are read back.
 use Rattle.std.proofs.Common.{◌≡◌, ℕ, zero, suc, ◌+◌, ◌-◌, ◌*◌, ◌/◌, ◌%◌, ◌^◌, ◌<◌, ◌≤◌, Bool, true, false, eqb, List, [], ◌∷◌, ◌++◌, length, Some, codes, decimal, sym, refl, ap, ◌∙◌, inl, inr, mul_assoc, add-mul, one-mul, pow-suc, zero-mul, mul-one, arith}
-use Rattle.std.specs.List.{AllByRecursion}
+use Rattle.std.specs.List.{AllByRecursion, list_all}
+use Rattle.std.proofs.lemmas.List.Folds.{list_all-append}
 use Rattle.std.proofs.lemmas.Fmt.{decimal_is_IsNumeral, decimal_nonempty}
 use Rattle.std.proofs.lemmas.Str.Parse.{digit_at}
 use Rattle.std.proofs.lemmas.List.{append-nil, get_or_append_left, length-append}
@@ -9,8 +10,6 @@ use Rattle.std.proofs.lemmas.Bool.{cases_Bool, cases_eq, eq-eqb, ne_eqb, eqb-tru
 use Rattle.text.specs.Rows.{onto}
 use Rattle.text.specs.Layout.{Field}
 use Rattle.text.proofs.Decimal.{decimal_no_minus, numeral-decimal}
-use Rattle.truth.specs.WellFormed.{all}
-use Rattle.truth.proofs.Members.{all_append as all_pass}
 use Rattle.entries.specs.declared.entry.Reply.TheVariants.{Value}
 use Rattle.certificate_text.specs.SetField.{is_dash, pieces, numerals, clauses_of, ascending, set_of, take_set}
 use Rattle.certificate_text.specs.ReplyField.{is_bit, reply_formed, binary, reply_of}
@@ -156,9 +155,9 @@ bit_of v =
       | inr n ↦ or_right _ _ (eq-eqb (48 + v % 2) 49 (omega arith))
     ]
 
-pub binary_bits : (width v : ℕ) → all is_bit (binary_text width v) ≡ true
+pub binary_bits : (width v : ℕ) → list_all is_bit (binary_text width v) ≡ true
 binary_bits zero v = refl
-binary_bits (suc k) v = all_pass is_bit (binary_text k (v / 2)) ((48 + v % 2) ∷ []) ∙ and_from _ _ (binary_bits k (v / 2)) (and_from _ _ (bit_of v) refl)
+binary_bits (suc k) v = list_all-append is_bit (binary_text k (v / 2)) ((48 + v % 2) ∷ []) ∙ and_from _ _ (binary_bits k (v / 2)) (and_from _ _ (bit_of v) refl)
 
 binary_push : (n : ℕ) (bs : List ℕ) (b : ℕ) → binary n (bs ++ (b ∷ [])) ≡ binary n bs * 2 + (b - 48)
 binary_push n [] b = refl
@@ -171,13 +170,13 @@ binary_read (suc k) v h =
     let r = binary_read k (v / 2) half in
     omega (arith, binary_push 0 (binary_text k (v / 2)) (48 + v % 2))
 
-bits_solid : (bs : List ℕ) → all is_bit bs ≡ true → Solid bs
+bits_solid : (bs : List ℕ) → list_all is_bit bs ≡ true → Solid bs
 bits_solid [] h = tt
 bits_solid (b ∷ bs) h =
     let p = and_parts (is_bit b) _ h in
     (elim (or_cases (eqb b 48) _ p.0) [ inl e ↦ omega (arith, eqb-true b 48 e) | inr e ↦ omega (arith, eqb-true b 49 e) ], bits_solid bs p.1)
 
-bits_no_dash : (bs : List ℕ) → all is_bit bs ≡ true → is_dash bs ≡ false
+bits_no_dash : (bs : List ℕ) → list_all is_bit bs ≡ true → is_dash bs ≡ false
 bits_no_dash [] h = refl
 bits_no_dash (b ∷ bs) h =
     let p = and_parts (is_bit b) _ h in

@@ -9,7 +9,7 @@ use Rattle.faults.specs.declared.cause.Cause.TheVariants.{TableFull}
 use Rattle.faults.specs.declared.fault.Fault.{Fault}
 use Rattle.text.specs.Rows.{lines_of, fields_of}
 use Rattle.text.specs.Taken.{take_number, ended}
-use Rattle.text.specs.Layout.{Lines}
+use Rattle.text.specs.Layout.{Lines, Spaced}
 use Rattle.text.proofs.Layouts.{fields_made, lines_made}
 use Rattle.truth.specs.declared.verdict.Verdict.{Verdict}
 use Rattle.truth.specs.declared.verdict.Verdict.TheVariants.{True, False}
@@ -28,7 +28,7 @@ use Rattle.certificate_text.specs.declared.read.Certificate.{Certificate}
 use Rattle.certificate_text.specs.declared.heading.Claim.{Claim}
 use Rattle.certificate_text.specs.SetField.{take_set}
 use Rattle.certificate_text.specs.ReplyField.{reply_formed, reply_of, take_reply}
-use Rattle.certificate_text.specs.Parse.{take_word, heading_of, heading_line, verdict_of, take_verdict, claim_of, read_verdict, verdict_line, EntryFields, entry_fields, read_entry, entry_lines, stopped, parse_certificate}
+use Rattle.certificate_text.specs.Parse.{take_word, take_words, heading_of, heading_line, verdict_words, entry_words, verdict_of, take_verdict, claim_of, read_verdict, verdict_line, EntryFields, entry_fields, read_entry, entry_lines, stopped, parse_certificate}
 use Rattle.certificate_text.specs.CertificateText.{set_text, reply_text, width_at, verdict_word}
 use Rattle.certificate_text.specs.Form.{ThreeFields, ClaimLine, EntryLine, CertificateForm}
 use Rattle.certificate_text.proofs.EntryFits.{ok_or_lem, reply_formed_lem, entries_fit, from_ok}
@@ -45,17 +45,20 @@ none_left (w ∷ ws) x e = absurd (none-some e)
 
 -- Headings.
 
-heading_made : (a b c line : List ℕ) (x : Unit {0}) → heading_of a b c line ≡ Some x → ThreeFields a b c line
-heading_made a b c line x e =
-    then_some (fields_of line) _ x e (λ fs f e. then_some (take_word a fs) _ x e (λ ws p e. then_some (take_word b ws) _ x e (λ us q e. then_some (take_word c us) _ x e (λ vs r e.
-    let is : fs ≡ a ∷ (b ∷ (c ∷ [])) = word_taken a fs ws p ∙ ap (λ t. a ∷ t) (word_taken b ws us q ∙ ap (λ t. b ∷ t) (word_taken c us vs r ∙ ap (λ t. c ∷ t) (none_left vs x e))) in
-    fields_made line a (b ∷ (c ∷ [])) (f ∙ ap Some is)))))
+words_taken : (words ws : List (List ℕ)) (x : Unit {0}) → take_words words ws ≡ Some x → ws ≡ words
+words_taken [] ws x e = none_left ws x e
+words_taken (word ∷ words) ws x e =
+    then_some (take_word word ws) _ x e (λ us p e. word_taken word ws us p ∙ ap (λ t. word ∷ t) (words_taken words us x e))
 
-pub heading_accepted : {P : Type 0} (n : ℕ) (a b c : List ℕ) (lines rest : List (List ℕ)) → heading_line n a b c lines ≡ Ok rest → ((l : List ℕ) → lines ≡ l ∷ rest → ThreeFields a b c l → P) → P
-heading_accepted n a b c [] rest e on = absurd (err_ok e)
-heading_accepted n a b c (l ∷ ls) rest e on =
-    onward_ok (ok_or (heading_of a b c l) _) _ rest e (λ x h e.
-    let is : ls ≡ rest = cc in on l (ap (λ t. l ∷ t) is) (heading_made a b c l x (ok_or_lem (heading_of a b c l) _ x h)))
+heading_made : (word : List ℕ) (words : List (List ℕ)) (line : List ℕ) (x : Unit {0}) → heading_of (word ∷ words) line ≡ Some x → Spaced (word ∷ words) line
+heading_made word words line x e =
+    then_some (fields_of line) _ x e (λ fs f e. fields_made line word words (f ∙ ap Some (words_taken (word ∷ words) fs x e)))
+
+pub heading_accepted : {P : Type 0} (n : ℕ) (word : List ℕ) (words lines rest : List (List ℕ)) → heading_line n (word ∷ words) lines ≡ Ok rest → ((l : List ℕ) → lines ≡ l ∷ rest → Spaced (word ∷ words) l → P) → P
+heading_accepted n word words [] rest e on = absurd (err_ok e)
+heading_accepted n word words (l ∷ ls) rest e on =
+    onward_ok (ok_or (heading_of (word ∷ words) l) _) _ rest e (λ x h e.
+    let is : ls ≡ rest = cc in on l (ap (λ t. l ∷ t) is) (heading_made word words l x (ok_or_lem (heading_of (word ∷ words) l) _ x h)))
 
 -- The line of the verdict.
 
@@ -144,8 +147,8 @@ entries_accepted {P} n f v places before (l ∷ lines) c room e on = by (λ x m 
 pub form_accepted : (f : Qbf) (places : ℕ) (text : List ℕ) (c : Certificate) → (parse_certificate f places text).ending ≡ Ok c →
     CertificateForm f c.verdict (parse_certificate f places text).entries text × (c.count ≤ places)
 form_accepted f places text c e =
-    from_ok (heading_line 1 _ _ _ (lines_of text)) _ c e (λ second h i e. from_ok (verdict_line 2 f second) _ c e (λ v m j e. from_ok (heading_line 3 _ _ _ v.1) _ c e (λ lines t k e.
-    heading_accepted 1 _ _ _ (lines_of text) second h (λ first first-is headed. verdict_accepted 2 f second v m (λ claim claim-is claimed. heading_accepted 3 _ _ _ v.1 lines t (λ third third-is titled.
+    from_ok (heading_line 1 verdict_words (lines_of text)) _ c e (λ second h i e. from_ok (verdict_line 2 f second) _ c e (λ v m j e. from_ok (heading_line 3 entry_words v.1) _ c e (λ lines t k e.
+    heading_accepted 1 _ _ (lines_of text) second h (λ first first-is headed. verdict_accepted 2 f second v m (λ claim claim-is claimed. heading_accepted 3 _ _ v.1 lines t (λ third third-is titled.
     entries_accepted 4 f v.0 places [] lines c (omega arith) e (λ es entered entries-are room.
     let fit = entries_fit 4 f v.0 places [] lines refl in
     let told = fit.1 c e in

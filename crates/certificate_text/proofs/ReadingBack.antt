@@ -5,7 +5,7 @@ use Rattle.std.proofs.lemmas.Slice.Eq.{bytes_eq-Decides}
 use Rattle.std.proofs.lemmas.List.{append-nil, append_assoc, length-append}
 use Rattle.std.proofs.ByRecursion.{All-append, All-weaker}
 use Rattle.std.proofs.lemmas.Bool.{eq-eqb, leb-true, ltb-true, lt-ltb, and_parts, not-true, both_ways}
-use Rattle.text.specs.Layout.{Without, Lines, Field}
+use Rattle.text.specs.Layout.{Without, Lines, Field, Spaced}
 use Rattle.text.specs.Layout.Lines.{none, more}
 use Rattle.text.specs.Layout.Spaced.{one, more as further}
 use Rattle.text.proofs.Decimal.{numeral-decimal, decimal_field}
@@ -23,7 +23,7 @@ use Rattle.entries.specs.declared.entry.Reply.{Reply}
 use Rattle.entries.specs.declared.entry.Reply.TheVariants.{None as NoReply, Value}
 use Rattle.entries.specs.Fitting.{replies, fits}
 use Rattle.certificate_text.specs.ReplyField.{reply_formed, reply_of}
-use Rattle.certificate_text.specs.Parse.{heading_line, verdict_line, verdict_of, read_entry, entry_lines, from, parse_lines, parse_certificate}
+use Rattle.certificate_text.specs.Parse.{take_words, heading_line, entry_words, verdict_line, verdict_of, read_entry, entry_lines, from, parse_lines, parse_certificate}
 use Rattle.certificate_text.specs.CertificateText.{set_text, reply_text, width_at, spaced, entry_text, verdict_word, claim_text, join_lines, certificate_lines, certificate_text}
 use Rattle.certificate_text.specs.Form.{ThreeFields, ClaimLine, EntryLine, CertificateForm}
 use Rattle.certificate_text.specs.RoundTrip.{ReadsBack}
@@ -31,9 +31,12 @@ use Rattle.certificate_text.proofs.FieldTexts.{Solid, solid_field, decimal_solid
 
 -- Headings.
 
-heading_read : (n : ℕ) (a b c line : List ℕ) (ls : List (List ℕ)) → ThreeFields a b c line → heading_line n a b c (line ∷ ls) ≡ Ok ls
-heading_read n a b c line ls s =
-    rw (fields_unique s, (bytes_eq-Decides a a).1 refl, (bytes_eq-Decides b b).1 refl, (bytes_eq-Decides c c).1 refl)
+words_read : (words : List (List ℕ)) → take_words words words ≡ Some tt
+words_read [] = refl
+words_read (w ∷ ws) = rw ((bytes_eq-Decides w w).1 refl) (words_read ws)
+
+heading_read : (n : ℕ) (words : List (List ℕ)) (line : List ℕ) (ls : List (List ℕ)) → Spaced words line → heading_line n words (line ∷ ls) ≡ Ok ls
+heading_read n words line ls s = rw (fields_unique s, words_read words)
 
 -- Lines that are written.
 
@@ -185,9 +188,9 @@ module _ (f : Qbf) (formed : WellFormed f) (v : Verdict) where
       → parse_certificate f places text ≡ record { ending = Ok (record { verdict = v; count = length es }); entries = es }
   form_read es places text t room =
       ap (parse_lines f places) (lines_unique t.lines)
-      ∙ ap (λ r. from r (λ second. from (verdict_line 2 f second) (λ p. from (heading_line 3 (codes "level") (codes "set") (codes "reply") p.1) (λ ls. entry_lines 4 f p.0 places [] ls)))) (heading_read 1 _ _ _ t.first _ t.headed)
-      ∙ ap (λ r. from r (λ p. from (heading_line 3 (codes "level") (codes "set") (codes "reply") p.1) (λ ls. entry_lines 4 f p.0 places [] ls))) (claim_read f formed v t.claim _ t.claimed)
-      ∙ ap (λ r. from r (λ ls. entry_lines 4 f v places [] ls)) (heading_read 3 _ _ _ t.third _ t.titled)
+      ∙ ap (λ r. from r (λ second. from (verdict_line 2 f second) (λ p. from (heading_line 3 entry_words p.1) (λ ls. entry_lines 4 f p.0 places [] ls)))) (heading_read 1 _ t.first _ t.headed)
+      ∙ ap (λ r. from r (λ p. from (heading_line 3 entry_words p.1) (λ ls. entry_lines 4 f p.0 places [] ls))) (claim_read f formed v t.claim _ t.claimed)
+      ∙ ap (λ r. from r (λ ls. entry_lines 4 f v places [] ls)) (heading_read 3 _ t.third _ t.titled)
       ∙ entries_read 4 places [] es t.listed t.entered t.fitting room
 
   entries_written : (es : List Entry) → all (fits (is_true v) f) es ≡ true → Pairwise (EntryLine f) es (map (entry_text f) es) × AllByRecursion (Without 10) (map (entry_text f) es)

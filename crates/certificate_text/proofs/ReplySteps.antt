@@ -1,24 +1,15 @@
 -- The steps of loops over binary digits.
 use Rattle.std.proofs.Common.{◌≡◌, ℕ, ◌+◌, ◌-◌, ◌*◌, ◌^◌, ◌<◌, ◌≤◌, Bool, true, false, ◌&&◌, List, length, get_or, drop, sym, ap, ◌∙◌, inl, inr, pow-suc, add-one, arith}
+use Rattle.std.specs.List.{list_all}
 use native.Mathlib.Nat.{pow-le-pow_right}
 use Rattle.std.proofs.lemmas.List.{at_drop_more, at_drop_all}
 use Rattle.std.proofs.lemmas.Bool.{and_parts, or_cases, eqb-true}
-use Rattle.truth.specs.WellFormed.{all}
 use Rattle.certificate_text.specs.ReplyField.{is_bit, binary}
 
-pub bits_more : (xs : List ℕ) (i : ℕ) (v : Bool) → i < length xs → true ≡ is_bit (get_or xs i 0) → all is_bit (drop i xs) ≡ v → all is_bit (drop (i + 1) xs) ≡ v
-bits_more xs i v h b e = sym (at_drop_more (all is_bit) xs i 0 h ∙ ap (λ t. t && all is_bit (drop (i + 1) xs)) (sym b)) ∙ e
-
-pub bits_stop : (xs : List ℕ) (i : ℕ) → i < length xs → false ≡ is_bit (get_or xs i 0) → all is_bit (drop i xs) ≡ false
-bits_stop xs i h b = at_drop_more (all is_bit) xs i 0 h ∙ ap (λ t. t && all is_bit (drop (i + 1) xs)) (sym b)
-
-pub bits_end : (xs : List ℕ) (i : ℕ) (v : Bool) → length xs ≤ i → all is_bit (drop i xs) ≡ v → true ≡ v
-bits_end xs i v h e = sym (at_drop_all (all is_bit) xs i h) ∙ e
-
 -- What holds of the digits that are left.
-pub bits_parts : (xs : List ℕ) (i : ℕ) → i < length xs → all is_bit (drop i xs) ≡ true → (48 ≤ get_or xs i 0) × (get_or xs i 0 ≤ 49) × (all is_bit (drop (i + 1) xs) ≡ true)
+pub bits_parts : (xs : List ℕ) (i : ℕ) → i < length xs → list_all is_bit (drop i xs) ≡ true → (48 ≤ get_or xs i 0) × (get_or xs i 0 ≤ 49) × (list_all is_bit (drop (i + 1) xs) ≡ true)
 bits_parts xs i h e =
-    let p = and_parts (is_bit (get_or xs i 0)) _ (sym (at_drop_more (all is_bit) xs i 0 h) ∙ e) in
+    let p = and_parts (is_bit (get_or xs i 0)) _ (sym (at_drop_more (list_all is_bit) xs i 0 h) ∙ e) in
     elim (or_cases _ _ p.0) [
       | inl z ↦ let d = eqb-true (get_or xs i 0) 48 z in (omega arith, omega arith, p.1)
       | inr z ↦ let d = eqb-true (get_or xs i 0) 49 z in (omega arith, omega arith, p.1)

@@ -1,13 +1,11 @@
 -- The steps of a loop that gathers the clauses of a set field, and what it has then.
-use Rattle.std.proofs.Common.{◌≡◌, ℕ, suc, ◌+◌, ◌-◌, ◌*◌, ◌%◌, ◌^◌, ◌<◌, ◌≤◌, Bool, true, false, ◌&&◌, ltb, leb, List, [], ◌∷◌, Some, None, Ok, Err, Option, sym, refl, ap, ◌∙◌, inl, inr, add_assoc, pow-suc, zero-add, arith}
+use Rattle.std.proofs.Common.{◌≡◌, ℕ, suc, ◌+◌, ◌-◌, ◌*◌, ◌%◌, ◌^◌, ◌<◌, ◌≤◌, Bool, true, false, ◌&&◌, ltb, leb, List, [], ◌∷◌, Some, None, Ok, Err, Option, sym, refl, ap, ◌∙◌, inl, inr, add_assoc, pow-suc, zero-add, add-zero, cond, arith}
 use native.Mathlib.Nat.{pow-le-pow_right}
 use Rattle.std.specs.Option.{ok_or, option_map}
-use Rattle.std.proofs.lemmas.Bool.{cases_Bool, and_parts, and_left, and_right, cond-true, cond-false}
-use Rattle.faults.specs.declared.fault.Fault.{Fault}
+use Rattle.std.proofs.lemmas.Bool.{cases_Bool}
 use Rattle.text.specs.Numeral.{numeral}
 use Rattle.text.specs.Taken.{and_then}
 use Rattle.truth.specs.Limits.{max_clauses}
-use Rattle.certificate_text.specs.declared.set_field.Gathered.{Gathered}
 use Rattle.certificate_text.specs.SetField.{numerals, ascending, set_of, set_up_to}
 use Rattle.certificate_text.specs.Gathering.{nothing, further, gathered, set_from}
 
@@ -31,47 +29,30 @@ shifted c h k =
     let p : 2 ^ c ≤ 2 ^ 128 = pow-le-pow_right (omega arith) k in
     omega (arith, twice c h)
 
+-- The clauses gathered are the set, where all are in range and order.
+gathered_none : (highest : ℕ) (cs : List ℕ) → gathered highest None cs ≡ None
+gathered_none highest [] = refl
+gathered_none highest (c ∷ cs) = gathered_none highest cs
+
+gathered_some : (highest s last : ℕ) (cs : List ℕ) → set_from (gathered highest (Some (s, last)) cs) ≡ cond (ascending highest last cs) (Some (s + set_of cs)) None
+gathered_some highest s last [] = rw (add-zero s)
+gathered_some highest s last (c ∷ cs) =
+    elim (cases_Bool (ltb last c && leb c highest)) [
+      | inl t ↦ rw t (gathered_some highest (s + 2 ^ (c - 1)) c cs ∙ rw (add_assoc s (2 ^ (c - 1)) (set_of cs)))
+      | inr t ↦ rw (t, gathered_none highest cs)
+    ]
+
+pub set_gathered : (highest : ℕ) (cs : List ℕ) → set_from (gathered highest (Some nothing) cs) ≡ set_up_to highest cs
+set_gathered highest cs = gathered_some highest 0 0 cs ∙ rw (zero-add (set_of cs))
+
+pub gather_start : (highest : ℕ) (g : ℕ × ℕ) (o : Option (List ℕ)) → g ≡ nothing → option_map (λ cs. set_from (gathered highest (Some g) cs)) o ≡ option_map (set_up_to highest) o
+gather_start highest g None e = refl
+gather_start highest g (Some cs) e = rw e (ap Some (set_gathered highest cs))
+
 -- One number more.
-pub gather_more : (highest : ℕ) (g : Gathered) (ws rest : List (List ℕ)) (w : List ℕ) (c : ℕ) (x : Option Gathered) → ws ≡ w ∷ rest → numeral w ≡ Some c → option_map (gathered highest g) (numerals ws) ≡ x → option_map (gathered highest (further highest g c)) (numerals rest) ≡ x
+pub gather_more : (highest : ℕ) (g : Option (ℕ × ℕ)) (ws rest : List (List ℕ)) (w : List ℕ) (c : ℕ) (x : Option (Option ℕ)) → ws ≡ w ∷ rest → numeral w ≡ Some c
+    → option_map (λ cs. set_from (gathered highest g cs)) (numerals ws) ≡ x → option_map (λ cs. set_from (gathered highest (and_then g (λ a. further highest a c)) cs)) (numerals rest) ≡ x
 gather_more highest g ws rest w c x s n i = sym step ∙ i
   where
-    step : option_map (gathered highest g) (numerals ws) ≡ option_map (gathered highest (further highest g c)) (numerals rest)
-    step = rw (s, n) (elim (numerals rest) as (λ o. option_map (gathered highest g) (and_then o (λ ns. Some (c ∷ ns))) ≡ option_map (gathered highest (further highest g c)) o) [ None ↦ refl | Some ns ↦ refl ])
-
-abbrev in_order : ℕ → Gathered → ℕ → Bool
-in_order highest g c = ltb g.last c && leb c highest
-
-added : (highest : ℕ) (g : Gathered) (c : ℕ) → in_order highest g c ≡ true → further highest g c ≡ record { set = g.set + 2 ^ (c - 1); last = c; sound = g.sound }
-added highest g c t = cond-true (in_order highest g c) _ _ t
-
-left_out : (highest : ℕ) (g : Gathered) (c : ℕ) → in_order highest g c ≡ false → further highest g c ≡ record { set = g.set; last = g.last; sound = false }
-left_out highest g c t = cond-false (in_order highest g c) _ _ t
-
-sound_gathered : (highest : ℕ) (g : Gathered) (cs : List ℕ) → (gathered highest g cs).sound ≡ (g.sound && ascending highest g.last cs)
-sound_gathered highest g [] = elim g.sound as (λ t. t ≡ (t && true)) [ true ↦ refl | false ↦ refl ]
-sound_gathered highest g (c ∷ cs) =
-    sound_gathered highest (further highest g c) cs ∙ elim (cases_Bool (in_order highest g c)) [
-      | inl t ↦ ap (λ x. x.sound && ascending highest x.last cs) (added highest g c t) ∙ ap (λ u. g.sound && (u && ascending highest c cs)) (sym t)
-      | inr t ↦ ap (λ x. x.sound && ascending highest x.last cs) (left_out highest g c t)
-          ∙ sym (and_right g.sound _ (and_left _ (ascending highest c cs) t))
-    ]
-
-set-gathered : (highest : ℕ) (g : Gathered) (cs : List ℕ) → ascending highest g.last cs ≡ true → (gathered highest g cs).set ≡ g.set + set_of cs
-set-gathered highest g [] a = omega arith
-set-gathered highest g (c ∷ cs) a =
-    let p = and_parts (in_order highest g c) _ a in
-    ap (λ x. (gathered highest x cs).set) (added highest g c p.0)
-    ∙ set-gathered highest (record { set = g.set + 2 ^ (c - 1); last = c; sound = g.sound }) cs p.1
-    ∙ add_assoc g.set (2 ^ (c - 1)) (set_of cs)
-
--- What was gathered is the set, where the clauses are in range and order.
-pub set_of_gathered : (highest : ℕ) (cs : List ℕ) → set_from (gathered highest nothing cs) ≡ set_up_to highest cs
-set_of_gathered highest cs =
-    elim (cases_Bool (ascending highest 0 cs)) [
-      | inl t ↦ rw (sound_gathered highest nothing cs, t) (ap Some (set-gathered highest nothing cs t ∙ zero-add (set_of cs)))
-      | inr t ↦ rw (sound_gathered highest nothing cs, t)
-    ]
-
-pub set_read : (highest : ℕ) (o : Option (List ℕ)) (g : Gathered) → option_map (gathered highest nothing) o ≡ Some g → Some (set_from g) ≡ option_map (set_up_to highest) o
-set_read highest None g e = cc
-set_read highest (Some cs) g e = let same : g ≡ gathered highest nothing cs = cc in ap Some (ap set_from same ∙ set_of_gathered highest cs)
+    step : option_map (λ cs. set_from (gathered highest g cs)) (numerals ws) ≡ option_map (λ cs. set_from (gathered highest (and_then g (λ a. further highest a c)) cs)) (numerals rest)
+    step = rw (s, n) (elim (numerals rest) as (λ o. option_map (λ cs. set_from (gathered highest g cs)) (and_then o (λ ns. Some (c ∷ ns))) ≡ option_map (λ cs. set_from (gathered highest (and_then g (λ a. further highest a c)) cs)) o) [ None ↦ refl | Some ns ↦ refl ])

@@ -1,31 +1,26 @@
--- What the numbers of a set field leave in a record of fixed size, one after another.
-use Rattle.std.specs.Prelude.{ℕ, ◌+◌, ◌-◌, ◌^◌, ◌<◌, ◌≤◌, true, false, cond, ◌&&◌, List, [], ◌∷◌, length, Some, None, Option, nat_le, nat_lt}
+-- What the numbers of a set field leave in a pair of fixed size, one after another.
+use Rattle.std.specs.Prelude.{ℕ, ◌+◌, ◌-◌, ◌^◌, ◌&&◌, List, [], ◌∷◌, length, Some, None, Option, nat_le, nat_lt, if◌then◌else◌}
 use Rattle.std.specs.Borrow.{Bor}
-use Rattle.truth.specs.Limits.{max_clauses}
-use Rattle.certificate_text.specs.declared.set_field.Gathered.{Gathered}
+use Rattle.std.specs.Option.{option_map}
+use Rattle.text.specs.Taken.{and_then}
 use Rattle.certificate_text.specs.SetField.{pieces}
 
-abbrev pub nothing : Gathered
-nothing = record { set = 0; last = 0; sound = true }
+-- The empty set, after no clause.
+abbrev pub nothing : ℕ × ℕ
+nothing = (0, 0)
 
--- One number more; one that is out of range or order leaves no mark in the set.
-abbrev pub further : ℕ → Gathered → ℕ → Gathered
-further highest g c =
-    cond (nat_lt g.last c && nat_le c highest)
-    (record { set = g.set + 2 ^ (c - 1); last = c; sound = g.sound })
-    (record { set = g.set; last = g.last; sound = false })
+-- A set and its last clause with one clause more, or none where that is out of range or order.
+abbrev pub further : ℕ → ℕ × ℕ → ℕ → Option (ℕ × ℕ)
+further highest g c = if nat_lt g.1 c && nat_le c highest then Some (g.0 + 2 ^ (c - 1), c) else None
 
-abbrev pub gathered : ℕ → Gathered → List ℕ → Gathered
+-- The clauses added one by one, while all are in range and order.
+abbrev pub gathered : ℕ → Option (ℕ × ℕ) → List ℕ → Option (ℕ × ℕ)
 gathered highest g [] = g
-gathered highest g (c ∷ cs) = gathered highest (further highest g c) cs
+gathered highest g (c ∷ cs) = gathered highest (and_then g (λ a. further highest a c)) cs
 
--- The set has no clause above the last.
-abbrev pub Within : Gathered → Type 0
-Within g = (g.set < 2 ^ g.last) × (g.last ≤ max_clauses)
-
--- The set gathered, where all numbers were in range and order.
-abbrev pub set_from : Gathered → Option ℕ
-set_from g = cond g.sound (Some g.set) None
+-- The set of what was gathered.
+abbrev pub set_from : Option (ℕ × ℕ) → Option ℕ
+set_from g = option_map (λ a. a.0) g
 
 -- The pieces of a text that may be none, and how many bytes and ends are left.
 abbrev pub pieces_left : Option (Bor (List ℕ)) → List (List ℕ)

@@ -1,5 +1,6 @@
 pub mod SetField
 pub mod ReplyField
+pub mod Bits
 pub mod Gathering
 pub mod Parse
 pub mod Listing

@@ -1,6 +1,6 @@
 -- The certificate that a text means for a formula, or the fault with the lowest line and then the lowest number, and the
 -- entries read before it.
-use Rattle.std.specs.Prelude.{ℕ, ◌+◌, Bool, cond, ◌&&◌, List, [], ◌∷◌, ◌++◌, length, drop, Some, None, Ok, Err, codes, Option, Result, ◌==◌, nat_lt}
+use Rattle.std.specs.Prelude.{ℕ, ◌+◌, Bool, ◌&&◌, List, [], ◌∷◌, ◌++◌, length, drop, Some, None, Ok, Err, codes, Option, Result, ◌==◌, nat_lt, if◌then◌else◌}
 use Rattle.std.specs.Option.{ok_or}
 use Rattle.std.specs.Str.{bytes_eq}
 use Rattle.faults.specs.declared.cause.Cause.TheVariants.{CertificateForm, OtherFormula, BadEntry, TableFull}
@@ -23,24 +23,32 @@ use Rattle.certificate_text.specs.ReplyField.{take_reply, reply_of}
 -- The fields after this word.
 abbrev pub take_word : List ℕ → List (List ℕ) → Option (List (List ℕ))
 take_word word [] = None
-take_word word (w ∷ ws) = cond (bytes_eq w word) (Some ws) None
+take_word word (w ∷ ws) = if bytes_eq w word then Some ws else None
 
--- A line of three words.
-abbrev pub heading_of : List ℕ → List ℕ → List ℕ → List ℕ → Option (Unit {0})
-heading_of a b c line =
-    and_then (fields_of line) (λ fields.
-    and_then (take_word a fields) (λ ws.
-    and_then (take_word b ws) (λ us.
-    and_then (take_word c us) ended)))
+-- These words, and no field after them.
+abbrev pub take_words : List (List ℕ) → List (List ℕ) → Option (Unit {0})
+take_words [] fields = ended fields
+take_words (w ∷ ws) fields = and_then (take_word w fields) (λ others. take_words ws others)
 
--- The lines after the first, on line n, which is a heading of three words.
-abbrev pub heading_line : ℕ → List ℕ → List ℕ → List ℕ → List (List ℕ) → Result (List (List ℕ)) Fault
-heading_line n a b c [] = Err (fault CertificateForm n)
-heading_line n a b c (l ∷ ls) = onward (ok_or (heading_of a b c l) (fault CertificateForm n)) (λ _. Ok ls)
+-- A line of these words.
+abbrev pub heading_of : List (List ℕ) → List ℕ → Option (Unit {0})
+heading_of words line = and_then (fields_of line) (λ fields. take_words words fields)
+
+-- The words of line 1, and of line 3.
+abbrev pub verdict_words : List (List ℕ)
+verdict_words = codes "verdict" ∷ codes "blocks" ∷ codes "clauses" ∷ []
+
+abbrev pub entry_words : List (List ℕ)
+entry_words = codes "level" ∷ codes "set" ∷ codes "reply" ∷ []
+
+-- The lines after the first, on line n, which is a heading of these words.
+abbrev pub heading_line : ℕ → List (List ℕ) → List (List ℕ) → Result (List (List ℕ)) Fault
+heading_line n words [] = Err (fault CertificateForm n)
+heading_line n words (l ∷ ls) = onward (ok_or (heading_of words l) (fault CertificateForm n)) (λ _. Ok ls)
 
 -- The verdict that a word says.
 abbrev pub verdict_of : List ℕ → Option Verdict
-verdict_of w = cond (bytes_eq w (codes "true")) (Some True) (cond (bytes_eq w (codes "false")) (Some False) None)
+verdict_of w = if bytes_eq w (codes "true") then Some True else (if bytes_eq w (codes "false") then Some False else None)
 
 abbrev pub take_verdict : List (List ℕ) → Option (Verdict × List (List ℕ))
 take_verdict [] = None
@@ -59,7 +67,7 @@ claim_of line =
 abbrev pub read_verdict : ℕ → Qbf → List ℕ → Result Verdict Fault
 read_verdict n f line =
     onward (ok_or (claim_of line) (fault CertificateForm n)) (λ m.
-    cond (m.blocks == length f.prefix && m.clauses == length f.matrix) (Ok m.verdict) (Err (fault OtherFormula n)))
+    if m.blocks == length f.prefix && m.clauses == length f.matrix then Ok m.verdict else Err (fault OtherFormula n))
 
 -- The verdict of the first line, on line n, and the lines after it.
 abbrev pub verdict_line : ℕ → Qbf → List (List ℕ) → Result (Verdict × List (List ℕ)) Fault
@@ -107,7 +115,7 @@ entry_lines n f v places es [] = record { ending = Ok (record { verdict = v; cou
 entry_lines n f v places es (l ∷ ls) =
     elim (read_entry n f (is_true v) l) [
       | Err e ↦ stopped e es
-      | Ok e ↦ cond (nat_lt (length es) places) (entry_lines (n + 1) f v places (es ++ e ∷ []) ls) (stopped (fault TableFull n) es)
+      | Ok e ↦ if nat_lt (length es) places then entry_lines (n + 1) f v places (es ++ e ∷ []) ls else stopped (fault TableFull n) es
     ]
 
 -- What on makes of a value, or the fault that came before any entry.
@@ -118,9 +126,9 @@ from (Err e) on = stopped e []
 -- The lines of a certificate.
 abbrev pub parse_lines : Qbf → ℕ → List (List ℕ) → Parsed
 parse_lines f places lines =
-    from (heading_line 1 (codes "verdict") (codes "blocks") (codes "clauses") lines) (λ second.
+    from (heading_line 1 verdict_words lines) (λ second.
     from (verdict_line 2 f second) (λ v.
-    from (heading_line 3 (codes "level") (codes "set") (codes "reply") v.1) (λ others.
+    from (heading_line 3 entry_words v.1) (λ others.
     entry_lines 4 f v.0 places [] others)))
 
 abbrev pub parse_certificate : Qbf → ℕ → List ℕ → Parsed

@@ -1,9 +1,10 @@
-ghost use Rattle.std.specs.Prelude.{◌≡◌, true, Some};
+ghost use Rattle.std.specs.Prelude.{◌≡◌};
 ghost use Rattle.truth.specs.Verdicts.{is_true};
 ghost use Rattle.qbf.specs.Held.{qbf_of};
-ghost use Rattle.certificate_text.specs.ReplyField.{reply_formed};
+ghost use Rattle.certificate_text.specs.Bits.{field_of};
 ghost use Rattle.certificate_text.specs.Parse.{entry_of, read_entry};
 
+use crate::bits::Bits;
 use crate::reply_field::{reply_of, take_reply};
 use crate::set_field::take_set;
 use entries::entry::Entry;
@@ -19,10 +20,9 @@ fn entry_of(
     verdict: Verdict,
     level: u32,
     set: Option<u128>,
-    reply: &[u8],
+    reply: Option<Bits>,
 ) -> Option<Entry>
-    requires { reply_formed reply.now ≡ true }
-    ensures { result ≡ entry_of (qbf_of formula.now) (is_true verdict) (record { level = level; set = set; reply = reply.now }) }
+    ensures { result ≡ entry_of (qbf_of formula.now) (is_true verdict) (record { level = level; set = set; reply = field_of reply.entry }) }
 {
     let quantifier = formula.quantifier(level as usize)?;
     let width = formula.width(level as usize)?;

@@ -1,4 +1,4 @@
-ghost use Rattle.std.specs.Prelude.{◌≡◌, ◌+◌, [], ◌∷◌, Some, None, Ok, Err, MatchResult};
+ghost use Rattle.std.specs.Prelude.{◌≡◌, ◌+◌, [], ◌∷◌, map, Some, None, Ok, Err, MatchResult};
 ghost use Rattle.std.specs.Option.{ok_or};
 ghost use Rattle.faults.specs.declared.cause.Cause.TheVariants.{CertificateForm};
 ghost use Rattle.text.specs.Left.{lines_left, next_line, fields_left};
@@ -26,43 +26,40 @@ pub(crate) struct Claim {
 fn next_line<'a>(lines: &mut Lines<'a>) -> Result<&'a [u8], Fault>
     ensures { MatchResult result (λ l. (lines_left lines.old ≡ l.now ∷ lines_left lines.new) × (lines.new.line ≡ lines.old.line + 1)) (λ e. (lines_left lines.old ≡ []) × (e ≡ fault CertificateForm (next_line lines.old))) }
 {
-    let Some(line) = lines.next() else {
-        return Err(Fault::new(Cause::CertificateForm, lines.line() + 1));
-    };
-    Ok(line)
+    lines
+        .next()
+        .ok_or(Fault::new(Cause::CertificateForm, lines.line() + 1))
 }
 
 // Takes this word.
-fn take_word(fields: &mut Fields, word: &[u8]) -> Result<(), Fault>
+fn take_word(fields: &mut Fields, word: &str) -> Result<(), Fault>
     ensures { Took fields.old fields.new result (take_word word.now (fields_left fields.old)) (λ _. fields_left fields.new) }
 {
-    if fields.field()? != word {
+    if fields.field()? != word.as_bytes() {
         return Err(fields.fault());
     }
     Ok(())
 }
 
-// Refuses a line that is not this heading of three words.
-fn expect(line: &[u8], a: &[u8], b: &[u8], c: &[u8], fault: Fault) -> Result<(), Fault>
-    ensures { result ≡ ok_or (heading_of a.now b.now c.now line.now) fault }
+// Refuses a line that is not a heading of these words.
+fn expect(line: &[u8], words: &[&str], fault: Fault) -> Result<(), Fault>
+    ensures { result ≡ ok_or (heading_of (map (λ w. w.now) words.now) line.now) fault }
 {
     let mut fields = Fields::of(line, fault)?;
-    take_word(&mut fields, a)?;
-    take_word(&mut fields, b)?;
-    take_word(&mut fields, c)?;
+    for word in words {
+        take_word(&mut fields, word)?;
+    }
     fields.end()
 }
 
-// Takes the next line, which has to be this heading of three words.
-pub(crate) fn read_heading(lines: &mut Lines, a: &[u8], b: &[u8], c: &[u8]) -> Result<(), Fault>
-    ensures { MatchResult result (λ _. (heading_line (next_line lines.old) a.now b.now c.now (lines_left lines.old) ≡ Ok (lines_left lines.new)) × (lines.new.line ≡ lines.old.line + 1)) (λ e. heading_line (next_line lines.old) a.now b.now c.now (lines_left lines.old) ≡ Err e) }
+// Takes the next line, which has to be a heading of these words.
+pub(crate) fn read_heading(lines: &mut Lines, words: &[&str]) -> Result<(), Fault>
+    ensures { MatchResult result (λ _. (heading_line (next_line lines.old) (map (λ w. w.now) words.now) (lines_left lines.old) ≡ Ok (lines_left lines.new)) × (lines.new.line ≡ lines.old.line + 1)) (λ e. heading_line (next_line lines.old) (map (λ w. w.now) words.now) (lines_left lines.old) ≡ Err e) }
 {
     let line = next_line(lines)?;
     expect(
         line,
-        a,
-        b,
-        c,
+        words,
         Fault::new(Cause::CertificateForm, lines.line()),
     )
 }

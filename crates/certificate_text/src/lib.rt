@@ -6,6 +6,7 @@
 // block, or `-` where no reply is owed. Lines, fields and numbers are those of a formula's text.
 #![tactic(auto)]
 
+mod bits;
 mod entry_line;
 mod entry_text;
 mod heading;

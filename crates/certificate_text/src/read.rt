@@ -33,6 +33,7 @@ fn read_entries(
     ensures ending { result ≡ (entry_lines (next_line lines.old) (qbf_of formula.now) verdict (length table.old) [] (lines_left lines.old)).ending }
     ensures table { table.new ≡ filled (entry_lines (next_line lines.old) (qbf_of formula.now) verdict (length table.old) [] (lines_left lines.old)).entries table.old }
 {
+    // An index, and no iterator over the places: an entry is read before a place is asked for, and the count is the answer.
     let mut count = 0;
     while let Some(line) = lines.next() {
         let entry = read_entry(line, lines.line(), formula, verdict)?;
@@ -45,15 +46,15 @@ fn read_entries(
     Ok(Certificate { verdict, count })
 }
 
-// Takes all lines of a text.
+// Takes all lines of a text. It stands apart from `read` so that exactness is shown at one return, and not at each `?`.
 fn read_lines(text: &[u8], formula: &Formula, table: &mut [Entry]) -> Result<Certificate, Fault>
     ensures ending { result ≡ (parse_certificate (qbf_of formula.now) (length table.old) text.now).ending }
     ensures table { table.new ≡ filled (parse_certificate (qbf_of formula.now) (length table.old) text.now).entries table.old }
 {
     let mut lines = Lines::new(text);
-    read_heading(&mut lines, b"verdict", b"blocks", b"clauses")?;
+    read_heading(&mut lines, &["verdict", "blocks", "clauses"])?;
     let verdict = read_verdict(&mut lines, formula)?;
-    read_heading(&mut lines, b"level", b"set", b"reply")?;
+    read_heading(&mut lines, &["level", "set", "reply"])?;
     read_entries(&mut lines, formula, verdict, table)
 }
 

@@ -1,6 +1,6 @@
 use Rattle.std.proofs.Common.{arith, rules}
 use Rattle.certificate_text.proofs.ReplySteps.{bits_parts, value_more, value_end, value_below, value_grown}
-use Rattle.certificate_text.proofs.reply_field.value_of.Goals as goal
+use Rattle.certificate_text.proofs.bits.Bits.value.Goals as goal
 
 pub overflow_mul-n : goal.overflow_mul-n
 overflow_mul-n c = let p = value_below _ _ c.loop-b.invariant.2 (omega arith) in search rules
