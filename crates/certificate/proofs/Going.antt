@@ -1,6 +1,5 @@
 -- How a play goes on, turn by turn.
 use Rattle.std.proofs.Common.{◌≡◌, ℕ, ◌+◌, ◌-◌, ◌<◌, ◌≤◌, Bool, true, false, List, [], ◌∷◌, length, sym, refl, ap, subst, ap₂, arith}
-use Rattle.std.proofs.lemmas.List.{length-drop}
 use Rattle.std.proofs.lemmas.Bool.{both_ways, not-true, ltb-true, ltb-false}
 use Rattle.truth.specs.Limits.{max_blocks}
 use Rattle.truth.specs.Syntax.{Block, Qbf}
@@ -20,7 +19,7 @@ use Rattle.certificate.specs.Accepting.{blocks_from}
 use Rattle.certificate.specs.Plays.{lends, moved, Played, Played.ended, Played.waits, Played.refused, Played.taken, Played.replied}
 use Rattle.certificate.specs.Games.{formula_of, verdict_of, entries_of, root_at, blocks_at, onward}
 use Rattle.certificate.specs.Views.{At}
-use Rattle.certificate.proofs.Sound.{next_blocks}
+use Rattle.certificate.proofs.FromLevel.{next_blocks, level_there}
 use Rattle.certificate.proofs.Checking.{few_levels}
 
 -- One step of a play, by what is due at its position.
@@ -31,19 +30,19 @@ module _ (f : Qbf) (v : Bool) (es : List Entry) (p : Position) (o : Outcome) (vs
   abbrev next : ℕ → Position
   next w = moved f.matrix (blocks_from f p.level) w p
 
-  step_replied : (w : ℕ) → 1 ≤ p.level → reply_due v left ≡ true → lends v es p.level p.set w ≡ true → Played f v es (blocks_from f (next w).level) (next w) vs o → Played f v es left p vs o
-  step_replied w low due lent k = at left refl due k
+  step_replied : (w : ℕ) → reply_due v left ≡ true → lends v es p.level p.set w ≡ true → Played f v es (blocks_from f (next w).level) (next w) vs o → Played f v es left p vs o
+  step_replied w due lent k = at left refl due k
     where
       at : (rs : List Block) → left ≡ rs → reply_due v rs ≡ true → Played f v es (blocks_from f (moved f.matrix rs w p).level) (moved f.matrix rs w p) vs o → Played f v es rs p vs o
       at [] d i j = absurd (both_ways false refl i)
-      at (b ∷ bs) d i j = replied w i lent (subst (λ z. Played f v es z (moved f.matrix (b ∷ bs) w p) vs o) (next_blocks f.prefix b bs p.level low d) j)
+      at (b ∷ bs) d i j = replied w i lent (subst (λ z. Played f v es z (moved f.matrix (b ∷ bs) w p) vs o) (next_blocks f b bs p.level d) j)
 
-  step_taken : (w : ℕ) → 1 ≤ p.level → value_due v left ≡ true → is_value left w ≡ true → Played f v es (blocks_from f (next w).level) (next w) vs o → Played f v es left p (w ∷ vs) o
-  step_taken w low due is k = at left refl due is k
+  step_taken : (w : ℕ) → value_due v left ≡ true → is_value left w ≡ true → Played f v es (blocks_from f (next w).level) (next w) vs o → Played f v es left p (w ∷ vs) o
+  step_taken w due is k = at left refl due is k
     where
       at : (rs : List Block) → left ≡ rs → value_due v rs ≡ true → is_value rs w ≡ true → Played f v es (blocks_from f (moved f.matrix rs w p).level) (moved f.matrix rs w p) vs o → Played f v es rs p (w ∷ vs) o
       at [] d i h j = absurd (both_ways false refl i)
-      at (b ∷ bs) d i h j = taken w (not-true _ i) (ltb-true w _ h) (subst (λ z. Played f v es z (moved f.matrix (b ∷ bs) w p) vs o) (next_blocks f.prefix b bs p.level low d) j)
+      at (b ∷ bs) d i h j = taken w (not-true _ i) (ltb-true w _ h) (subst (λ z. Played f v es z (moved f.matrix (b ∷ bs) w p) vs o) (next_blocks f b bs p.level d) j)
 
   step_refused : (w : ℕ) → value_due v left ≡ true → is_value left w ≡ false → Played f v es left p vs o → Played f v es left p (w ∷ vs) o
   step_refused w due is k = at left due is k
@@ -84,7 +83,7 @@ module _ (a : Accepted) (turn : Turn) (rest offers : List ℕ) (g : Going a turn
         let t = subst (λ u. At u a g.0) e g.1.0 in
         let k = same_game a h.game g.0 h.at rest offers t.0 t.1 g.1.1 in
         subst (λ x. Going x next rest offers) t.0
-        (onward h.game h.at w, (at, λ o j. k o (step_replied _ _ _ h.at o rest w h.safe.0 h.due lent j)))
+        (onward h.game h.at w, (at, λ o j. k o (step_replied _ _ _ h.at o rest w h.due lent j)))
 
   module _ (h : OtherTurn) (e : turn ≡ Other h) where
     pub go_taken : (w : ℕ) (after : List ℕ) (next : Turn) → rest ≡ w ∷ after → is_value (blocks_at h.game h.at) w ≡ true → At next h.game (onward h.game h.at w) → Going a next after offers
@@ -92,7 +91,7 @@ module _ (a : Accepted) (turn : Turn) (rest offers : List ℕ) (g : Going a turn
         let t = subst (λ u. At u a g.0) e g.1.0 in
         let k = subst (λ vs. Continues h.game h.at vs offers) d (same_game a h.game g.0 h.at rest offers t.0 t.1 g.1.1) in
         subst (λ x. Going x next after offers) t.0
-        (onward h.game h.at w, (at, λ o j. k o (step_taken _ _ _ h.at o after w h.safe.0 h.due is j)))
+        (onward h.game h.at w, (at, λ o j. k o (step_taken _ _ _ h.at o after w h.due is j)))
 
     pub go_refused : (w : ℕ) (after : List ℕ) (back : OtherTurn) → rest ≡ w ∷ after → is_value (blocks_at h.game h.at) w ≡ false → back ≡ h → Going a (Other back) after offers
     go_refused w after back d is same =
@@ -130,8 +129,7 @@ height-at (Over t) a p at = omega arith
 level_left : (a : Accepted) (p : Position) (w : ℕ) (b : Block) (bs : List Block) → blocks_at a p ≡ b ∷ bs → (p.level ≤ max_blocks) × ((onward a p w).level ≡ p.level + 1)
 level_left a p w b bs d =
     let few = few_levels a.formula.now in
-    let long = length-drop (p.level - 1) (formula_of a).prefix in
-    let some = ap length d in
+    let there = level_there (formula_of a) b bs p.level d in
     (omega arith, ap (λ z. (moved (formula_of a).matrix z w p).level) d)
 
 lower : (a : Accepted) (p : Position) (w : ℕ) (next : Turn) (rs : List Block) → blocks_at a p ≡ rs → nothing_due rs ≡ false → At next a (onward a p w) → height next < (max_blocks + 2) - p.level

@@ -2,7 +2,6 @@
 use Rattle.std.proofs.Common.{◌≡◌, ℕ, ◌+◌, ◌-◌, ◌^◌, ◌<◌, ◌≤◌, Bool, true, false, eqb, List, [], ◌∷◌, length, drop, is_some, Some, None, Option, sym, refl, ap, ◌∙◌, subst, ap₂, inl, inr, arith}
 use Rattle.std.specs.Option.{option_map}
 use Rattle.std.proofs.lemmas.Bool.{cases_Bool, cases_lt, both_ways, and_parts, not-true, not_from_false, ltb-true}
-use Rattle.truth.specs.declared.literal.Clause.{Clause}
 use Rattle.truth.specs.Places.{numbered}
 use Rattle.truth.specs.Syntax.{Block, Qbf}
 use Rattle.truth.specs.Sides.{owes}
@@ -21,19 +20,19 @@ use Rattle.certificate.specs.Movers.{reply_due, value_due, is_value}
 use Rattle.certificate.specs.Plays.{lends, assigned, start, moved, Safe, Played, Played.ended, Played.waits, Played.refused, Played.taken, Played.replied, Right, PlaysRight}
 use Rattle.std.specs.List.{find}
 use Rattle.certificate.proofs.Steps.{first_some, first_member}
-use Rattle.certificate.proofs.Sound.{agrees_is, next_blocks, value_reached, reply_reached, reply_there}
-use Rattle.certificate.proofs.FromLevel.{told_none, told_some}
+use Rattle.certificate.proofs.Sound.{agrees_is, value_reached, reply_reached, reply_there}
+use Rattle.certificate.proofs.FromLevel.{next_blocks, told_none, told_some}
 
-module _ (cs : List Clause) (bs : List Block) (w : ℕ) (p : Position) (low : 1 ≤ p.level) where
-  pub moved_nowhere : None ≡ option_map (λ b. rest_under cs b w p.set) (numbered bs p.level) → p ≡ moved cs (drop (p.level - 1) bs) w p
-  moved_nowhere e = ap (λ z. moved cs z w p) (sym (told_none (λ b. rest_under cs b w p.set) bs p.level low e))
+module _ (f : Qbf) (w : ℕ) (p : Position) where
+  pub moved_nowhere : None ≡ option_map (λ b. rest_under f.matrix b w p.set) (numbered f.prefix p.level) → p ≡ moved f.matrix (blocks_from f p.level) w p
+  moved_nowhere e = ap (λ z. moved f.matrix z w p) (sym (told_none (λ b. rest_under f.matrix b w p.set) f p.level e))
 
-  pub moved_to : (s : ℕ) (a : Assignment) → Some s ≡ option_map (λ b. rest_under cs b w p.set) (numbered bs p.level) → a ≡ assigned (drop (p.level - 1) bs) w p.played →
-      ◌≡◌ {A = Position} (record { level = p.level + 1; set = s; played = a }) (moved cs (drop (p.level - 1) bs) w p)
+  pub moved_to : (s : ℕ) (a : Assignment) → Some s ≡ option_map (λ b. rest_under f.matrix b w p.set) (numbered f.prefix p.level) → a ≡ assigned (blocks_from f p.level) w p.played →
+      ◌≡◌ {A = Position} (record { level = p.level + 1; set = s; played = a }) (moved f.matrix (blocks_from f p.level) w p)
   moved_to s a e k =
-      let b = told_some (λ b. rest_under cs b w p.set) bs p.level s low e in
+      let b = told_some (λ b. rest_under f.matrix b w p.set) f p.level s e in
       let make : ℕ → Assignment → Position = λ x y. record { level = p.level + 1; set = x; played = y } in
-      ap₂ make b.1.0 (k ∙ ap (λ z. assigned z w p.played) b.1.1) ∙ ap (λ z. moved cs z w p) (sym b.1.1)
+      ap₂ make b.1.0 (k ∙ ap (λ z. assigned z w p.played) b.1.1) ∙ ap (λ z. moved f.matrix z w p) (sym b.1.1)
 
 module _ (f : Qbf) (v : Bool) (es : List Entry) where
   pub safe_start : accepts f v es ≡ true → Safe f v es (start f v)
@@ -45,7 +44,7 @@ module _ (f : Qbf) (v : Bool) (es : List Entry) where
     safe_on : (p : Position) (b : Block) (bs : List Block) (w : ℕ) → blocks_from f p.level ≡ b ∷ bs → Safe f v es p →
         reached v es bs (p.level + 1) (rest_under f.matrix b w p.set) ≡ true → Safe f v es (moved f.matrix (b ∷ bs) w p)
     safe_on p b bs w d s r =
-        let next = next_blocks f.prefix b bs p.level s.0 d in
+        let next = next_blocks f b bs p.level d in
         let t = made_true b.variables w in
         let g = made_false b.variables w in (
           omega arith,
@@ -121,9 +120,9 @@ module _ (f : Qbf) (v : Bool) (es : List Entry) where
     play_right (waits {p = p} o) d s = ap (value_due v) d ∙ not_from_false _ o
     play_right (refused w o h k) d s = play_right k d s
     play_right (taken {b = b} {bs = bs} {p = p} w o h k) d s =
-        play_right k (next_blocks f.prefix b bs p.level s.0 d) (safe_taken upheld-all p b bs w d s o h)
+        play_right k (next_blocks f b bs p.level d) (safe_taken upheld-all p b bs w d s o h)
     play_right (replied {b = b} {bs = bs} {p = p} w o h k) d s =
-        play_right k (next_blocks f.prefix b bs p.level s.0 d) (safe_replied upheld-all p b bs w d s o h)
+        play_right k (next_blocks f b bs p.level d) (safe_replied upheld-all p b bs w d s o h)
 
     -- And there is one, whatever is offered.
     abbrev Goes : List Block → Position → Type 0
@@ -140,7 +139,7 @@ module _ (f : Qbf) (v : Bool) (es : List Entry) where
     play_goes : (bs : List Block) (p : Position) → blocks_from f p.level ≡ bs → Safe f v es p → Goes bs p
     play_goes [] p d s = λ vs. (Ended p.set p.played, ended)
     play_goes (b ∷ bs) p d s =
-        let next = next_blocks f.prefix b bs p.level s.0 d in
+        let next = next_blocks f b bs p.level d in
         elim (cases_Bool (owes v b.quantifier)) [
           | inl o ↦ λ vs.
               let k = any_member (covers v p.level p.set) es (subst (λ z. reached v es z p.level p.set ≡ true) d s.1) in

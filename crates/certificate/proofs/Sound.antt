@@ -1,6 +1,6 @@
 -- From a covered position every play of supported entries goes on to a covered one; so what they tell is true.
 use Rattle.std.proofs.Common.{◌≡◌, ℕ, zero, suc, ◌+◌, ◌-◌, ◌^◌, ◌<◌, ◌≤◌, Bool, true, false, not, ◌&&◌, eqb, ltb, leb, List, [], ◌∷◌, length, drop, sym, refl, ap, ◌∙◌, subst, inl, inr, arith}
-use Rattle.std.proofs.lemmas.Bool.{cases_Bool, both_ways, and_parts, and_from, not-true, not_from_true, eqb-true, eq-eqb, ltb-true}
+use Rattle.std.proofs.lemmas.Bool.{cases_Bool, both_ways, and_parts, and_from, not-true, not_from_true, eqb-true, eq-eqb, ltb-true, leb-true}
 use Rattle.truth.specs.declared.literal.Clause.{Clause}
 use Rattle.truth.specs.Syntax.{Block, Qbf}
 use Rattle.truth.specs.Sides.{under, closing, agrees, owes}
@@ -16,8 +16,9 @@ use Rattle.entries.specs.declared.entry.Entry.{Entry}
 use Rattle.entries.specs.declared.entry.Reply.{Reply}
 use Rattle.entries.specs.declared.entry.Reply.TheVariants.{None, Value}
 use Rattle.entries.specs.Fitting.{replies, fits}
-use Rattle.certificate.specs.Accepting.{covers, reached, leads_on, upheld, supported, accepts}
+use Rattle.certificate.specs.Accepting.{blocks_from, covers, reached, leads_on, upheld, supported, accepts}
 use Rattle.certificate.specs.Plays.{gives, lends}
+use Rattle.certificate.proofs.FromLevel.{from_before, next_blocks}
 
 pub agrees_is : (v b : Bool) → agrees v b ≡ true → b ≡ v
 agrees_is true b h = h
@@ -31,18 +32,6 @@ pub disagrees_is : (v b : Bool) → agrees v b ≡ false → not b ≡ v
 disagrees_is true b h = ap not h
 disagrees_is false true h = refl
 disagrees_is false false h = h
-
-pub drop_next : {A : Type 0} (n : ℕ) (xs : List A) (y : A) (ys : List A) → drop n xs ≡ y ∷ ys → drop (suc n) xs ≡ ys
-drop_next zero [] y ys h = cc
-drop_next zero (x ∷ xs) y ys h = cc
-drop_next (suc n) [] y ys h = cc
-drop_next (suc n) (x ∷ xs) y ys h = drop_next n xs y ys h
-
--- The blocks from the next level on.
-pub next_blocks : (bs : List Block) (b : Block) (rs : List Block) (level : ℕ) → 1 ≤ level → drop (level - 1) bs ≡ b ∷ rs → drop ((level + 1) - 1) bs ≡ rs
-next_blocks bs b rs level low d =
-    let here : (level + 1) - 1 ≡ suc (level - 1) = omega arith in
-    ap (λ n. drop n bs) here ∙ drop_next (level - 1) bs b rs d
 
 module _ (v : Bool) (es : List Entry) where
   -- A position on the side of a covered one is covered.
@@ -73,18 +62,18 @@ gives_is w (Value x) h = ap Value (eqb-true x w h)
 
 module _ (f : Qbf) (v : Bool) (es : List Entry) (sup : all (supported v f es) es ≡ true) where
   -- What is known of a supported entry at a level: it fits, and it is upheld.
-  stands_at : (e : Entry) (b : Block) (bs : List Block) (level : ℕ) → Mem e es → e.level ≡ level → drop (level - 1) f.prefix ≡ b ∷ bs →
+  stands_at : (e : Entry) (b : Block) (bs : List Block) (level : ℕ) → Mem e es → e.level ≡ level → blocks_from f level ≡ b ∷ bs →
       (replies v (b ∷ bs) e.reply ≡ true) × (upheld v f.matrix es (b ∷ bs) level e.set e.reply ≡ true)
   stands_at e b bs level m at d =
       let k = and_parts (fits v f e) _ (all_member (supported v f es) es sup m) in
       let i = and_parts (leb 1 e.level) _ k.0 in
       let j = and_parts (ltb e.set (2 ^ length f.matrix)) _ i.1 in
-      let same : drop (e.level - 1) f.prefix ≡ b ∷ bs = ap (λ n. drop (n - 1) f.prefix) at ∙ d in (
-        subst (λ z. replies v z e.reply ≡ true) same j.1,
+      let same = ap (blocks_from f) at ∙ d in (
+        subst (λ z. replies v z e.reply ≡ true) (from_before f e.level (leb-true 1 e.level i.0) ∙ same) j.1,
         subst (λ n. upheld v f.matrix es (b ∷ bs) n e.set e.reply ≡ true) at (subst (λ z. upheld v f.matrix es z e.level e.set e.reply ≡ true) same k.1),
       )
 
-  module _ (b : Block) (bs : List Block) (level s : ℕ) (d : drop (level - 1) f.prefix ≡ b ∷ bs) where
+  module _ (b : Block) (bs : List Block) (level s : ℕ) (d : blocks_from f level ≡ b ∷ bs) where
     onward : (e : Entry) (w : ℕ) → under v s e.set ≡ true → reached v es bs (level + 1) (rest_under f.matrix b w e.set) ≡ true → reached v es bs (level + 1) (rest_under f.matrix b w s) ≡ true
     onward e w h r = reached-under v es bs (level + 1) _ _ (under-rest v f.matrix (made_true b.variables w) (made_false b.variables w) s e.set h) r
 
@@ -121,14 +110,14 @@ module _ (f : Qbf) (v : Bool) (es : List Entry) (sup : all (supported v f es) es
         (w, (r.1.0, any-from (λ e. covers v level s e && gives w e.reply) es m (and_from _ _ c own)))
 
   -- A covered position has the verdict.
-  pub reached-won : (bs : List Block) (level s : ℕ) → 1 ≤ level → drop (level - 1) f.prefix ≡ bs → reached v es bs level s ≡ true → won f.matrix bs s ≡ v
-  reached-won [] level s low d r = agrees_is v (eqb s 0) r
-  reached-won (b ∷ bs) level s low d r =
+  pub reached-won : (bs : List Block) (level s : ℕ) → blocks_from f level ≡ bs → reached v es bs level s ≡ true → won f.matrix bs s ≡ v
+  reached-won [] level s d r = agrees_is v (eqb s 0) r
+  reached-won (b ∷ bs) level s d r =
       let p : ℕ → Bool = λ w. won f.matrix bs (rest_under f.matrix b w s) in
       let q = b.quantifier in
       let n = 2 ^ length b.variables in
       let on : (w : ℕ) → reached v es bs (level + 1) (rest_under f.matrix b w s) ≡ true → p w ≡ v =
-      λ w. reached-won bs (level + 1) (rest_under f.matrix b w s) (omega arith) (next_blocks f.prefix b bs level low d) in
+      λ w. reached-won bs (level + 1) (rest_under f.matrix b w s) (next_blocks f b bs level d) in
       elim (cases_Bool (owes v q)) [
         | inl o ↦
             let c = agrees_is v (closing q) o in
@@ -145,5 +134,5 @@ module _ (f : Qbf) (v : Bool) (es : List Entry) (sup : all (supported v f es) es
 pub accepted_true : (f : Qbf) (v : Bool) (es : List Entry) → accepts f v es ≡ true → (holds f ≡ v) × (holds_plainly f ≡ v)
 accepted_true f v es h =
     let k = and_parts (reached v es f.prefix 1 (root_of f v)) (all (supported v f es) es) h in
-    let so : holds f ≡ v = sym (truth_laws.roots_hold f v) ∙ reached-won f v es k.1 f.prefix 1 (root_of f v) (omega arith) refl k.0 in
+    let so : holds f ≡ v = sym (truth_laws.roots_hold f v) ∙ reached-won f v es k.1 f.prefix 1 (root_of f v) refl k.0 in
     (so, sym (formulas_plain f) ∙ so)

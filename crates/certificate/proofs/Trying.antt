@@ -21,10 +21,10 @@ use Rattle.qbf.specs.Offered.{next_candidate}
 use Rattle.entries.specs.declared.entry.Entry.{Entry}
 use Rattle.entries.specs.declared.entry.Reply.TheVariants.{None as NoReply}
 use Rattle.entries.specs.Fitting.{replies, fits}
-use Rattle.certificate.specs.Accepting.{reached, leads_on, upheld}
+use Rattle.certificate.specs.Accepting.{blocks_from, reached, leads_on, upheld}
 use Rattle.certificate.specs.Movers.{value_due}
-use Rattle.certificate.proofs.Sound.{reached-under, next_blocks}
-use Rattle.certificate.proofs.FromLevel.{following, from_level, all_first}
+use Rattle.certificate.proofs.Sound.{reached-under}
+use Rattle.certificate.proofs.FromLevel.{following, from_level, from_before, next_blocks, level_there, all_at}
 
 -- What lies on one verdict's side of a set has the set on the other's.
 turned : (v : Bool) (q : Quantifier) (a b : ℕ) → owes v q ≡ false → under (closing q) a b ≡ true → under v b a ≡ true
@@ -100,17 +100,17 @@ next_of cs b bs s from c (Some w) d e =
       rest = refl;
     })
 
-module _ (f : Qbf) (level s from : ℕ) (low : 1 ≤ level) where
-  pub next_some : (c : Candidate) → Some c ≡ next_candidate f level s from → Next f.matrix (drop (level - 1) f.prefix) s from c
-  next_some c e = subst (λ z. Next f.matrix z s from c) (sym (from_level f.prefix level low)) (at (numbered f.prefix level) e)
+module _ (f : Qbf) (level s from : ℕ) where
+  pub next_some : (c : Candidate) → Some c ≡ next_candidate f level s from → Next f.matrix (blocks_from f level) s from c
+  next_some c e = subst (λ z. Next f.matrix z s from c) (sym (from_level f level)) (at (numbered f.prefix level) e)
     where
       at : (o : Option Block) → Some c ≡ and_then o (λ b. option_map (λ v. record { value = v; rest = rest_under f.matrix b v s }) (first_from from (candidates_at f.matrix b s))) →
           Next f.matrix (following o (drop level f.prefix)) s from c
       at None h = let z : ◌≡◌ {A = ℕ} 0 1 = cc in absurd (omega arith)
       at (Some b) h = next_of f.matrix b _ s from c (first_from from (candidates_at f.matrix b s)) refl h
 
-  pub next_none : None ≡ next_candidate f level s from → untried f.matrix (drop (level - 1) f.prefix) s from ≡ []
-  next_none e = ap (λ z. untried f.matrix z s from) (from_level f.prefix level low) ∙ at (numbered f.prefix level) e
+  pub next_none : None ≡ next_candidate f level s from → untried f.matrix (blocks_from f level) s from ≡ []
+  next_none e = ap (λ z. untried f.matrix z s from) (from_level f level) ∙ at (numbered f.prefix level) e
     where
       mapped_none : {A B : Type 0} (g : A → B) (o : Option A) → None ≡ option_map g o → None ≡ o
       mapped_none g None h = refl
@@ -121,59 +121,60 @@ module _ (f : Qbf) (level s from : ℕ) (low : 1 ≤ level) where
       at None h = refl
       at (Some b) h = from_end from (candidates_at f.matrix b s) (mapped_none _ (first_from from (candidates_at f.matrix b s)) h)
 
-module _ (f : Qbf) (level s from : ℕ) (low : 1 ≤ level) (c : Candidate) (e : Some c ≡ next_candidate f level s from) where
+module _ (f : Qbf) (level s from : ℕ) (c : Candidate) (e : Some c ≡ next_candidate f level s from) where
   pub candidate_low : from ≤ c.value
-  candidate_low = (next_some f level s from low c e).low
+  candidate_low = (next_some f level s from c e).low
 
   pub candidate_small : all wide f.prefix ≡ true → c.value < 2 ^ max_width
   candidate_small h =
-      let n = next_some f level s from low c e in
+      let n = next_some f level s from c e in
       let k = length n.block.variables in
-      let w = and_parts (leb 1 k) (leb k max_width) (all_first wide (level - 1) f.prefix n.block n.after h n.is) in
+      let w = and_parts (leb 1 k) (leb k max_width) (all_at wide f n.block n.after level h n.is) in
       let few : 2 ^ k ≤ 2 ^ max_width = pow_mono (leb-true k max_width w.1) in
       omega (arith, n.value)
 
   pub candidate_level : level ≤ length f.prefix
-  candidate_level = omega (arith, length-drop (level - 1) f.prefix, ap length (next_some f level s from low c e).is)
+  candidate_level = let n = next_some f level s from c e in level_there f n.block n.after level n.is
 
 -- The steps of a loop over the candidates, where x is what all values together say.
-module _ (v : Bool) (f : Qbf) (es : List Entry) (level s from : ℕ) (low : 1 ≤ level) (x : Bool) where
+module _ (v : Bool) (f : Qbf) (es : List Entry) (level s from : ℕ) (x : Bool) where
   abbrev blocks : List Block
-  blocks = drop (level - 1) f.prefix
+  blocks = blocks_from f level
 
   abbrev all_lead : List ℕ → Bool
   all_lead = all (leads_on v f.matrix es blocks level s)
 
   module _ (same : all_lead (untried f.matrix blocks s from) ≡ x) where
     module _ (c : Candidate) (e : Some c ≡ next_candidate f level s from) where
-      here_is : (r : Bool) → r ≡ reached v es (drop ((level + 1) - 1) f.prefix) (level + 1) c.rest → r ≡ leads_on v f.matrix es blocks level s c.value
+      here_is : (r : Bool) → r ≡ reached v es (blocks_from f (level + 1)) (level + 1) c.rest → r ≡ leads_on v f.matrix es blocks level s c.value
       here_is r k =
-          let n = next_some f level s from low c e in
-          k ∙ ap₂ (λ z t. reached v es z (level + 1) t) (next_blocks f.prefix n.block n.after level low n.is) n.rest
+          let n = next_some f level s from c e in
+          k ∙ ap₂ (λ z t. reached v es z (level + 1) t) (next_blocks f n.block n.after level n.is) n.rest
           ∙ ap (λ z. leads_on v f.matrix es z level s c.value) (sym n.is)
 
       parts : (leads_on v f.matrix es blocks level s c.value && all_lead (untried f.matrix blocks s (c.value + 1))) ≡ x
-      parts = ap all_lead (sym (next_some f level s from low c e).first) ∙ same
+      parts = ap all_lead (sym (next_some f level s from c e).first) ∙ same
 
-      pub tried_stop : false ≡ reached v es (drop ((level + 1) - 1) f.prefix) (level + 1) c.rest → false ≡ x
+      pub tried_stop : false ≡ reached v es (blocks_from f (level + 1)) (level + 1) c.rest → false ≡ x
       tried_stop k = sym (and_left _ _ (sym (here_is false k))) ∙ parts
 
-      pub tried_more : true ≡ reached v es (drop ((level + 1) - 1) f.prefix) (level + 1) c.rest → all_lead (untried f.matrix blocks s (c.value + 1)) ≡ x
+      pub tried_more : true ≡ reached v es (blocks_from f (level + 1)) (level + 1) c.rest → all_lead (untried f.matrix blocks s (c.value + 1)) ≡ x
       tried_more k = sym (ap (λ z. z && all_lead (untried f.matrix blocks s (c.value + 1))) (sym (here_is true k))) ∙ parts
 
     pub tried_all : None ≡ next_candidate f level s from → true ≡ x
-    tried_all e = ap all_lead (sym (next_none f level s from low e)) ∙ same
+    tried_all e = ap all_lead (sym (next_none f level s from e)) ∙ same
+
+pub fits_level : (v : Bool) (f : Qbf) (e : Entry) → fits v f e ≡ true → 1 ≤ e.level
+fits_level v f e h = leb-true 1 e.level (and_parts (leb 1 e.level) _ h).0
 
 -- An entry that fits and has no reply stands at the other side's level.
-pub none_due : (v : Bool) (f : Qbf) (e : Entry) → fits v f e ≡ true → e.reply ≡ NoReply → value_due v (drop (e.level - 1) f.prefix) ≡ true
+pub none_due : (v : Bool) (f : Qbf) (e : Entry) → fits v f e ≡ true → e.reply ≡ NoReply → value_due v (blocks_from f e.level) ≡ true
 none_due v f e h k =
     let i = and_parts (leb 1 e.level) _ h in
     let j = and_parts (ltb e.set (2 ^ length f.matrix)) _ i.1 in
-    at (drop (e.level - 1) f.prefix) (subst (λ r. replies v (drop (e.level - 1) f.prefix) r ≡ true) k j.1)
+    let told = subst (λ r. replies v (drop (e.level - 1) f.prefix) r ≡ true) k j.1 in
+    at (blocks_from f e.level) (subst (λ z. replies v z NoReply ≡ true) (from_before f e.level (leb-true 1 e.level i.0)) told)
   where
     at : (rs : List Block) → replies v rs NoReply ≡ true → value_due v rs ≡ true
     at [] r = r
     at (b ∷ bs) r = r
-
-pub fits_level : (v : Bool) (f : Qbf) (e : Entry) → fits v f e ≡ true → 1 ≤ e.level
-fits_level v f e h = leb-true 1 e.level (and_parts (leb 1 e.level) _ h).0

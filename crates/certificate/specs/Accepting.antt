@@ -1,5 +1,5 @@
 -- When a position is covered, an entry supported, and entries accepted.
-use Rattle.std.specs.Prelude.{ℕ, ◌+◌, ◌-◌, ◌^◌, Bool, false, ◌&&◌, List, [], ◌∷◌, length, drop, ◌==◌}
+use Rattle.std.specs.Prelude.{ℕ, zero, suc, ◌+◌, ◌^◌, Bool, false, ◌&&◌, List, [], ◌∷◌, length, drop, ◌==◌}
 use Rattle.truth.specs.declared.literal.Clause.{Clause}
 use Rattle.truth.specs.Syntax.{Block, Qbf}
 use Rattle.truth.specs.Sides.{agrees}
@@ -11,9 +11,10 @@ use Rattle.entries.specs.declared.entry.Reply.TheVariants.{None, Value}
 use Rattle.entries.specs.Covering.{covering}
 use Rattle.entries.specs.Fitting.{fits}
 
--- The blocks that still get a value at a level.
+-- The blocks that still get a value at a level. Levels count from 1, and at 0 there are none.
 abbrev pub blocks_from : Qbf → ℕ → List Block
-blocks_from f level = drop (level - 1) f.prefix
+blocks_from f zero = []
+blocks_from f (suc i) = drop i f.prefix
 
 -- An entry for verdict v covers the position of this level with this set.
 abbrev pub covers : Bool → ℕ → ℕ → Entry → Bool

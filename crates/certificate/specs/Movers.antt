@@ -1,14 +1,14 @@
 -- Who gives the value of the next block.
-use Rattle.std.specs.Prelude.{ℕ, ◌^◌, Bool, true, false, cond, not, List, [], ◌∷◌, length, nat_lt}
+use Rattle.std.specs.Prelude.{ℕ, ◌^◌, Bool, true, false, cond, not, List, [], ◌∷◌, length, Some, None, Option, nat_lt}
 use Rattle.truth.specs.Syntax.{Block}
 use Rattle.truth.specs.Sides.{owes}
 use Rattle.certificate.specs.declared.mover.Mover.{Mover}
-use Rattle.certificate.specs.declared.mover.Mover.TheVariants.{Holder, Other, Nobody}
+use Rattle.certificate.specs.declared.mover.Mover.TheVariants.{Holder, Other}
 
 -- The holder of verdict v gives the values of the blocks at which a reply is owed, the other side gives those of the others.
-abbrev pub mover_of : Bool → List Block → Mover
-mover_of v [] = Nobody
-mover_of v (b ∷ bs) = cond (owes v b.quantifier) Holder Other
+abbrev pub mover_of : Bool → List Block → Option Mover
+mover_of v [] = None
+mover_of v (b ∷ bs) = Some (cond (owes v b.quantifier) Holder Other)
 
 -- A reply of the holder is due.
 abbrev pub reply_due : Bool → List Block → Bool

@@ -1,4 +1,4 @@
-ghost use Rattle.std.specs.Prelude.{◌≡◌, ◌≤◌, true};
+ghost use Rattle.std.specs.Prelude.{◌≡◌, true};
 ghost use Rattle.truth.specs.Limits.{max_variables};
 ghost use Rattle.truth.specs.WellFormed.{ranged};
 ghost use Rattle.qbf.specs.Held.{qbf_of};
@@ -30,7 +30,6 @@ fn with_variable(played: Assignment, variable: u32, so: bool) -> Assignment
 
 // The assignment together with that of a value of the block at a level.
 pub(crate) fn assign(formula: &Formula, level: usize, value: u16, played: Assignment) -> Assignment
-    requires { 1 ≤ level }
     ensures { result ≡ assigned (blocks_from (qbf_of formula.now) level) value played }
 {
     let Some(width) = formula.width(level) else {

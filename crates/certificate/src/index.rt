@@ -1,8 +1,8 @@
-ghost use Rattle.std.specs.Prelude.{◌≡◌, ◌+◌, ◌^◌, ◌<◌, ◌≤◌, length, set, find};
+ghost use Rattle.std.specs.Prelude.{◌≡◌, ◌+◌, ◌^◌, ◌<◌, ◌≤◌, length, find};
 ghost use Rattle.truth.specs.Limits.{max_blocks};
 ghost use Rattle.truth.specs.Verdicts.{is_true};
 ghost use Rattle.certificate.specs.Accepting.{covers};
-ghost use Rattle.certificate.specs.Spans.{Spanned, starts_with};
+ghost use Rattle.certificate.specs.Spans.{Spanned, reaching};
 
 use crate::covers::covering_entry;
 use entries::entry::Entry;
@@ -10,49 +10,50 @@ use truth::limits::MAX_BLOCKS;
 use truth::verdict::Verdict;
 
 // A place for each level that a formula can have, and for level 0.
-const PLACES: usize = 17;
+const PLACES: usize = MAX_BLOCKS + 1;
 
-// Entries, with the places between which those of each level stand: a look-up passes over the others.
+// Places from one on and before another.
+#[derive(Clone, Copy, Drop)]
+struct Span {
+    start: usize,
+    end: usize,
+}
+
+impl Span {
+    // The span up to place i, behind all that it had. Where it had none, it begins there.
+    fn reaching(self, i: usize) -> Span
+        requires { i < 2 ^ 63 }
+        ensures { result ≡ reaching i self }
+    {
+        Span {
+            start: if self.end == 0 { i } else { self.start },
+            end: i + 1,
+        }
+    }
+}
+
+// Entries, with the span in which those of each level stand: a look-up passes over the others.
 #[derive(Drop)]
 pub(crate) struct Index<'a> {
     entries: &'a [Entry],
-    starts: [usize; PLACES],
-    ends: [usize; PLACES],
-    ghost first: { length starts ≡ max_blocks + 1 },
-    ghost last: { length ends ≡ max_blocks + 1 },
-    ghost spanned: { Spanned entries.now (length entries.now) starts ends },
-}
-
-// Notes that an entry of this level stands at place i, behind all that were noted. There is no place for a level that no
-// formula has.
-fn note(starts: &mut [usize; PLACES], ends: &mut [usize; PLACES], level: usize, i: usize)
-    requires { i < 2 ^ 63 }
-    ensures starts { starts.new ≡ starts_with level i starts.old ends.old }
-    ensures ends { ends.new ≡ set ends.old level (i + 1) }
-{
-    if level > MAX_BLOCKS {
-        return;
-    }
-    if ends[level] == 0 {
-        starts[level] = i;
-    }
-    ends[level] = i + 1;
+    spans: [Span; PLACES],
+    ghost places: { length spans ≡ max_blocks + 1 },
+    ghost spanned: { Spanned entries.now (length entries.now) spans },
 }
 
 impl<'a> Index<'a> {
     pub(crate) fn of(entries: &'a [Entry]) -> Index<'a>
         ensures { result.entries.now ≡ entries.now }
     {
-        let mut starts = [0; PLACES];
-        let mut ends = [0; PLACES];
+        let mut spans = [Span { start: 0, end: 0 }; PLACES];
         for (i, entry) in entries.iter().enumerate() {
-            note(&mut starts, &mut ends, entry.level as usize, i);
+            let level = entry.level as usize;
+            // There is no place for a level that no formula has.
+            if level < PLACES {
+                spans[level] = spans[level].reaching(i);
+            }
         }
-        Index {
-            entries,
-            starts,
-            ends,
-        }
+        Index { entries, spans }
     }
 
     // The first entry that covers a position of a level that a formula can have.
@@ -60,8 +61,7 @@ impl<'a> Index<'a> {
         requires { level ≤ max_blocks }
         ensures { result ≡ find (covers (is_true verdict) level set) self.now.entries.now }
     {
-        let start = self.starts[level];
-        let end = self.ends[level];
+        let Span { start, end } = self.spans[level];
         covering_entry(&self.entries[start..end], verdict, level, set)
     }
 }

@@ -4,6 +4,7 @@
 pub mod accepted;
 mod assign;
 pub mod check;
+mod checker;
 mod covers;
 mod index;
 mod levels;

@@ -1,4 +1,4 @@
-ghost use Rattle.std.specs.Prelude.{◌≡◌, ◌≤◌, true, false, MatchResult, ◌==◌};
+ghost use Rattle.std.specs.Prelude.{◌≡◌, true, false, MatchResult, ◌==◌};
 ghost use Rattle.faults.specs.declared.cause.Cause.TheVariants.{BadValue};
 ghost use Rattle.truth.specs.Truth.{rest, whole};
 ghost use Rattle.qbf.specs.Held.{qbf_of};
@@ -27,15 +27,14 @@ fn arrive(game: Accepted, at: Position) -> Turn
     ensures { At result game.entry at }
 {
     match mover_at(game.formula, game.verdict, at.level) {
-        Mover::Other => Turn::Other(OtherTurn { game, at }),
-        Mover::Holder => Turn::Holder(HolderTurn { game, at }),
-        Mover::Nobody => Turn::Over(Ended { game, at }),
+        Some(Mover::Other) => Turn::Other(OtherTurn { game, at }),
+        Some(Mover::Holder) => Turn::Holder(HolderTurn { game, at }),
+        None => Turn::Over(Ended { game, at }),
     }
 }
 
 // The position one level on, by a value of the level's block.
 fn move_on(formula: &Formula, at: Position, value: u16) -> Position
-    requires { 1 ≤ at.level }
     ensures { result ≡ moved (qbf_of formula.now).matrix (blocks_from (qbf_of formula.now) at.level) value at }
 {
     let Some(set) = formula.rest(at.level, value, at.set) else {

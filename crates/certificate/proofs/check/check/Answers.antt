@@ -12,8 +12,8 @@ returns-then-not-is_supported c =
     let v = is_true c.args.verdict in
     let es = c.args.entries.now in
     let i = c.loop-i.i in
-    let root = root_reached f v _ es c.of-index.ensures _ c.root.ensures c.if-not-is_reached.ensures in
-    let fails = supported-same f v _ es c.of-index.ensures _ (get_or es i no_entry) c.if-not-is_supported.ensures in
+    let root = root_reached f v _ es c.of.ensures _ c.root.ensures c.if-not-is_reached.ensures in
+    let fails = supported-same f v _ es c.of.ensures _ (get_or es i no_entry) c.if-not-is_supported.ensures in
     let stop = failing_stop (supported v f es) es i (i + 4) _ c.loop-i.invariant no_entry c.loop-i-test.true fails in
     let so = refused_so f v es root _ (ap Some c.new.ensures ∙ stop) in
     record { fault = so.0; accepts = so.1; keeps = tt; truth = tt }
@@ -25,7 +25,7 @@ loop-i-preserved c =
     let es = c.args.entries.now in
     let i = c.loop-i.i in
     failing_more (supported v f es) es i (i + 4) _ c.loop-i.invariant no_entry _ (omega arith) c.loop-i-test.true
-    (supported-same f v _ es c.of-index.ensures _ (get_or es i no_entry) c.if-not-is_supported.ensures)
+    (supported-same f v _ es c.of.ensures _ (get_or es i no_entry) c.if-not-is_supported.ensures)
 
 pub invariant_of-result : goal.invariant_of-result
 invariant_of-result c =
@@ -33,7 +33,7 @@ invariant_of-result c =
     let v = is_true c.args.verdict in
     let es = c.args.entries.now in
     let i = c.loop-i.i in
-    let root = root_reached f v _ es c.of-index.ensures _ c.root.ensures c.if-not-is_reached.ensures in
+    let root = root_reached f v _ es c.of.ensures _ c.root.ensures c.if-not-is_reached.ensures in
     record { ok = (accepted_so f v es root (failing_end _ es i (i + 4) _ c.loop-i.invariant c.loop-i-test.false)).1 }
 
 pub returns : goal.returns
@@ -42,6 +42,6 @@ returns c =
     let v = is_true c.args.verdict in
     let es = c.args.entries.now in
     let i = c.loop-i.i in
-    let root = root_reached f v _ es c.of-index.ensures _ c.root.ensures c.if-not-is_reached.ensures in
+    let root = root_reached f v _ es c.of.ensures _ c.root.ensures c.if-not-is_reached.ensures in
     let so = accepted_so f v es root (failing_end _ es i (i + 4) _ c.loop-i.invariant c.loop-i-test.false) in
     record { fault = so.0; accepts = sym so.1; keeps = (refl, refl, refl); truth = accepted_true f v es so.1 }

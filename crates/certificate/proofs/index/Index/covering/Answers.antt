@@ -6,5 +6,4 @@ use Rattle.certificate.proofs.index.Index.covering.Goals as goal
 pub returns : goal.returns
 returns c =
     let it = c.args.self.now in
-    let level = c.args.level in
-    c.covering_entry.ensures ∙ first_within (is_true c.args.verdict) level c.args.set _ (get_or it.starts level 0) (get_or it.ends level 0) (it.spanned level c.requires)
+    c.covering_entry.ensures ∙ first_within (is_true c.args.verdict) c.args.level c.args.set _ _ (it.spanned c.args.level _ c.requires)

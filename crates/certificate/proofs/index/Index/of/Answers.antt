@@ -1,18 +1,33 @@
-use Rattle.std.proofs.Common.{refl}
-use Rattle.certificate.proofs.Places.{spanned_none, spanned_more, spanned_all}
+use Rattle.std.proofs.Common.{◌+◌, length, set, sym, refl, ap, ◌∙◌, subst, arith}
+use Rattle.std.proofs.lemmas.List.{length-set}
+use Rattle.certificate.specs.Spans.{Spanned}
+use Rattle.certificate.proofs.Places.{spanned_none, spanned_more, spanned_past, spanned_all}
+use Rattle.certificate.proofs.Faulting.{no_entry}
 use Rattle.certificate.proofs.index.Index.of.Goals as goal
+use Rattle.certificate.proofs.index.Index.of.Goals.{then-level-lt-PLACES, else-level-lt-PLACES}
 
 pub loop-i-init : goal.loop-i-init
-loop-i-init c = (refl, refl, spanned_none c.args.entries.now)
+loop-i-init c = record { places = refl; spanned = spanned_none c.args.entries.now _ refl refl }
 
 pub loop-i-preserved : goal.loop-i-preserved
 loop-i-preserved c =
-    let more = spanned_more c.args.entries.now c.loop-i.i c.loop-i.starts c.loop-i.ends _ c.loop-i.invariant.0 c.loop-i.invariant.1 c.loop-i-test.true c.loop-i.invariant.2 in
-    (c.type_inv.starts, c.type_inv.ends, simp (c.note.ensures.starts, c.note.ensures.ends) more)
+    let es = c.args.entries.now in
+    let spans = c.loop-i.spans in
+    let known = c.loop-i.invariant in
+    elim c.if-level-lt-PLACES.branch [
+      | then-level-lt-PLACES w ↦
+          let same = w.spans-is ∙ ap (set spans _) w.reaching.ensures in record {
+            places = ap length same ∙ length-set spans _ _ ∙ known.places;
+            spanned = subst (Spanned es (c.loop-i.i + 1)) (sym same) (spanned_more es c.loop-i.i spans _ _ known.places c.loop-i-test.true known.spanned);
+          }
+      | else-level-lt-PLACES w ↦ record {
+        places = ap length w.spans-is ∙ known.places;
+        spanned = subst (Spanned es (c.loop-i.i + 1)) (sym w.spans-is) (spanned_past es c.loop-i.i spans no_entry (omega arith) c.loop-i-test.true known.spanned);
+      }
+    ]
 
 pub invariant_of-result : goal.invariant_of-result
 invariant_of-result c = record {
-  first = c.loop-i.invariant.0;
-  last = c.loop-i.invariant.1;
-  spanned = spanned_all _ _ c.loop-i.starts c.loop-i.ends c.loop-i-test.false c.loop-i.auto.i-end c.loop-i.invariant.2;
+  places = c.loop-i.invariant.places;
+  spanned = spanned_all _ _ c.loop-i.spans c.loop-i-test.false c.loop-i.auto.i-end c.loop-i.invariant.spanned;
 }

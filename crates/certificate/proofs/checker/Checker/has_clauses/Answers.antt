@@ -1,6 +1,6 @@
 use Rattle.std.proofs.Common.{◌^◌, ltb, ap, ◌∙◌}
 use Rattle.certificate.proofs.FromLevel.{above-none}
-use Rattle.certificate.proofs.levels.has_clauses.Goals as goal
+use Rattle.certificate.proofs.checker.Checker.has_clauses.Goals as goal
 
 pub returns-else-clauses-ge-MAX_CLAUSES : goal.returns-else-clauses-ge-MAX_CLAUSES
 returns-else-clauses-ge-MAX_CLAUSES c =
