@@ -10,4 +10,3 @@ pub mod Placing
 pub mod Starts
 pub mod Grouping
 pub mod Rounds
-pub mod LawfulKinds

@@ -1,5 +1,6 @@
 pub mod Limits
 pub mod Entries
+pub mod Inclusion
 pub mod Lookups
 pub mod Adding
 pub mod Antichain

@@ -4,6 +4,7 @@
 pub mod arrivals;
 pub mod calls;
 pub mod entry;
+pub mod kind;
 pub mod levels;
 pub mod limits;
 pub mod store;

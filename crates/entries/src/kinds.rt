@@ -1,123 +1,89 @@
-ghost use Rattle.std.specs.Prelude.{◌≡◌, ◌≤◌, true, false, MatchOption};
+ghost use Rattle.std.specs.Prelude.{◌≡◌, ◌≤◌, false, true, MatchResult};
 ghost use Rattle.antichain.specs.Limits.{max_level};
-ghost use Rattle.antichain.specs.Entries.{comes_before, covers_by};
-ghost use Rattle.entries.specs.Covering.{storable, covering};
-ghost use Rattle.entries.specs.Lawful.{lawful};
+ghost use Rattle.entries.specs.Covering.{storable};
 
 use crate::entry::Entry;
-use antichain::entry::Entry as Kind;
+use antichain::kind::{Covering, LeveledSet};
 use antichain::limits::MAX_LEVEL;
+use std::error::Error;
+use std::fmt;
+
+// An entry at a level that stores know, from 1 to 16.
+#[derive(Clone, Copy, Debug)]
+pub struct Storable {
+    entry: Entry,
+    ghost range: { (1 ≤ entry.level) × (entry.level ≤ max_level) },
+}
 
 // An entry for true: it covers the sets that lie inside its own.
-#[derive(Clone, Copy, Debug)]
-pub struct Winning {
-    entry: Entry,
-    ghost range: { (1 ≤ entry.level) × (entry.level ≤ max_level) },
-}
+pub type Winning = Covering<Storable, true>;
 
 // An entry for false: it covers the sets that its own lies inside.
-#[derive(Clone, Copy, Debug)]
-pub struct Losing {
-    entry: Entry,
-    ghost range: { (1 ≤ entry.level) × (entry.level ≤ max_level) },
+pub type Losing = Covering<Storable, false>;
+
+// A level that stores do not know.
+#[derive(Clone, Copy, Debug, PartialEq, Eq)]
+pub struct UnknownLevel(pub u8);
+
+impl fmt::Display for UnknownLevel {
+    fn fmt<W: fmt::Write>(&self, f: &mut fmt::Formatter<W>) -> fmt::Result {
+        write!(f, "no store has a level {}", self.0)
+    }
 }
 
-// Whether an entry has a level that stores know, from 1 to 16.
-fn is_storable(entry: Entry) -> bool
-    ensures { result ≡ storable entry }
-{
-    entry.level >= 1 && entry.level as usize <= MAX_LEVEL
-}
+impl Error for UnknownLevel {}
 
-// Whether one entry comes first in canonical order: by level, then by set number.
-fn comes_before(a: Entry, b: Entry) -> bool
-    ensures { result ≡ comes_before a.level a.set b.level b.set }
-{
-    a.level < b.level || a.level == b.level && a.set < b.set
-}
+impl TryFrom<Entry> for Storable {
+    type Error = UnknownLevel;
 
-impl Winning {
-    // The entry as a winning one, or none where its level is not from 1 to 16.
-    pub fn new(entry: Entry) -> Option<Winning>
-        ensures { MatchOption result (storable entry ≡ false) (λ w. (w.entry ≡ entry) × (storable entry ≡ true)) }
-    {
-        if !is_storable(entry) {
-            return None;
+    ghost try_from_gives = { λ e r. MatchResult r (λ s. (s.entry ≡ e) × (storable e ≡ true)) (λ x. (x.0 ≡ e.level) × (storable e ≡ false)) };
+
+    fn try_from(entry: Entry) -> Result<Storable, UnknownLevel> {
+        if entry.level < 1 || entry.level as usize > MAX_LEVEL {
+            return Err(UnknownLevel(entry.level));
         }
-        Some(Winning { entry })
-    }
-
-    pub fn entry(&self) -> Entry
-        ensures { result ≡ self.now.entry }
-    {
-        self.entry
+        Ok(Storable { entry })
     }
 }
 
-impl Losing {
-    // The entry as a losing one, or none where its level is not from 1 to 16.
-    pub fn new(entry: Entry) -> Option<Losing>
-        ensures { MatchOption result (storable entry ≡ false) (λ l. (l.entry ≡ entry) × (storable entry ≡ true)) }
-    {
-        if !is_storable(entry) {
-            return None;
-        }
-        Some(Losing { entry })
-    }
+impl From<Storable> for Entry {
+    ghost from_gives = { λ s e. e ≡ s.entry };
 
-    pub fn entry(&self) -> Entry
-        ensures { result ≡ self.now.entry }
-    {
-        self.entry
+    fn from(storable: Storable) -> Entry {
+        storable.entry
     }
 }
 
-impl Kind for Winning {
+impl LeveledSet for Storable {
     ghost level = { λ x. x.entry.level };
 
     ghost set = { λ x. x.entry.set };
 
-    ghost covers = { λ x y. covers_by (covering true) x.entry.level x.entry.set y.entry.level y.entry.set };
-
-    ghost before = { λ x y. comes_before x.entry.level x.entry.set y.entry.level y.entry.set };
-
-    ghost rules = { lawful true (λ x. x.entry) (λ x. x.range) };
+    ghost range = { λ x. x.range };
 
     fn level(&self) -> u8 {
         self.entry.level
     }
 
-    fn covers(&self, other: &Winning) -> bool {
-        let set = other.entry.set;
-        self.entry.level == other.entry.level && set & self.entry.set == set
-    }
-
-    fn before(&self, other: &Winning) -> bool {
-        comes_before(self.entry, other.entry)
+    fn set(&self) -> u128 {
+        self.entry.set
     }
 }
 
-impl Kind for Losing {
-    ghost level = { λ x. x.entry.level };
+impl<const INSIDE: bool> TryFrom<Entry> for Covering<Storable, INSIDE> {
+    type Error = UnknownLevel;
 
-    ghost set = { λ x. x.entry.set };
+    ghost try_from_gives = { λ e r. MatchResult r (λ w. (w.0.entry ≡ e) × (storable e ≡ true)) (λ x. (x.0 ≡ e.level) × (storable e ≡ false)) };
 
-    ghost covers = { λ x y. covers_by (covering false) x.entry.level x.entry.set y.entry.level y.entry.set };
-
-    ghost before = { λ x y. comes_before x.entry.level x.entry.set y.entry.level y.entry.set };
-
-    ghost rules = { lawful false (λ x. x.entry) (λ x. x.range) };
-
-    fn level(&self) -> u8 {
-        self.entry.level
+    fn try_from(entry: Entry) -> Result<Self, UnknownLevel> {
+        Ok(Covering(Storable::try_from(entry)?))
     }
+}
 
-    fn covers(&self, other: &Losing) -> bool {
-        let set = self.entry.set;
-        self.entry.level == other.entry.level && set & other.entry.set == set
-    }
+impl<const INSIDE: bool> From<Covering<Storable, INSIDE>> for Entry {
+    ghost from_gives = { λ w e. e ≡ w.0.entry };
 
-    fn before(&self, other: &Losing) -> bool {
-        comes_before(self.entry, other.entry)
+    fn from(kept: Covering<Storable, INSIDE>) -> Entry {
+        kept.0.entry
     }
 }

@@ -1,6 +1,7 @@
 ghost use Rattle.std.specs.Prelude.{◌≡◌, ◌≤◌, min, max};
 ghost use Rattle.antichain.specs.Limits.{max_level};
 
+use antichain::kind::LeveledSet;
 use antichain::limits::MAX_LEVEL;
 use std::fmt;
 
@@ -28,22 +29,26 @@ impl Card {
         }
     }
 
-    pub fn level(&self) -> u8
-        ensures { result ≡ self.now.level }
-    {
-        self.level
-    }
-
-    pub fn set(&self) -> u128
-        ensures { result ≡ self.now.set }
-    {
-        self.set
-    }
-
     pub fn payload(&self) -> u16
         ensures { result ≡ self.now.payload }
     {
         self.payload
+    }
+}
+
+impl LeveledSet for Card {
+    ghost level = { λ x. x.level };
+
+    ghost set = { λ x. x.set };
+
+    ghost range = { λ x. x.range };
+
+    fn level(&self) -> u8 {
+        self.level
+    }
+
+    fn set(&self) -> u128 {
+        self.set
     }
 }
 
@@ -54,5 +59,12 @@ impl fmt::Display for Card {
         let set = self.set;
         let payload = self.payload;
         write!(f, "{level}:{set}/{payload}")
+    }
+}
+
+impl fmt::Debug for Card {
+    // The same, as lists of calls print it.
+    fn fmt<W: fmt::Write>(&self, f: &mut fmt::Formatter<W>) -> fmt::Result {
+        write!(f, "{self}")
     }
 }

@@ -1,11 +1,12 @@
-use crate::work::{fill, look_up, replace};
+use crate::work::{add_each, larger, look_up};
 use antichain::store::{ListedStore, Store};
+use set_entries::apart::apart;
 use set_entries::kinds::Outer;
 use std::io;
 use std::time::{Clock, Duration, Instant};
 
 // How many calls there are in a second, if `calls` took this long.
-fn per_second(calls: u32, time: Duration) -> u128 {
+fn per_second(calls: usize, time: Duration) -> u128 {
     calls as u128 * 1_000_000_000 / time.as_nanos().max(1)
 }
 
@@ -22,10 +23,10 @@ fn step<S: ListedStore<Outer>, R: Print + Eprint + Clock>(
     ensures { S.Store.sound store.new }
 {
     let start = Instant::now(rt)?;
-    let filled = fill(store, first, last);
+    let filled = add_each(store, first, last, apart);
     let fill_time = start.elapsed(rt)?;
     let start = Instant::now(rt)?;
-    let replaced = replace(store, first, first.saturating_add(99));
+    let replaced = add_each(store, first, first.saturating_add(99), larger);
     let replace_time = start.elapsed(rt)?;
     let start = Instant::now(rt)?;
     let covered = look_up(store, last.saturating_sub(99), last, 0);

@@ -5,6 +5,7 @@ mod print;
 mod scenes;
 
 use antichain::calls::Round;
+use antichain::kind::Covering;
 use antichain::limits::MAX_ENTRIES;
 use print::side_by_side;
 use scenes::{
@@ -12,44 +13,36 @@ use scenes::{
     several_levels,
 };
 use set_entries::card::Card;
-use set_entries::kinds::{Inner, Outer};
 use std::alloc::Global;
 use std::io;
 
 // Four more places than a store may use.
 const LONG: usize = MAX_ENTRIES + 4;
 
-// Runs rounds of the first kind on tables of a few places, at most four.
-fn few_places(
+// Runs rounds on tables of a few places, at most four.
+fn few_places<const INSIDE: bool>(
     rt: &impl Print,
     title: &str,
     places: usize,
-    rounds: &mut [Round<Outer>],
+    rounds: &mut [Round<Covering<Card, INSIDE>>],
 ) -> io::Result<()> {
-    let mut here = [Outer(Card::new(1, 0, 0)); 4];
-    let mut there = [Outer(Card::new(1, 0, 0)); 4];
+    let mut here = [Covering(Card::new(1, 0, 0)); 4];
+    let mut there = here;
     let places = places.min(4);
     side_by_side(
         rt,
         title,
-        &mut here[0..places],
-        &mut there[0..places],
+        &mut here[..places],
+        &mut there[..places],
         rounds,
         0,
     )
 }
 
-// Runs rounds of the other kind, on tables of three places.
-fn other_way(rt: &impl Print, title: &str, rounds: &mut [Round<Inner>]) -> io::Result<()> {
-    let mut here = [Inner(Card::new(1, 0, 0)); 3];
-    let mut there = [Inner(Card::new(1, 0, 0)); 3];
-    side_by_side(rt, title, &mut here, &mut there, rounds, 0)
-}
-
 // Runs rounds on tables of more places than a store may use, and prints the last ones.
 fn many_places(rt: &impl Print, heap: Global, title: &str) -> anyhow::Result<()> {
-    let mut here = vec![in heap; Outer(Card::new(1, 0, 0)); LONG]?;
-    let mut there = vec![in heap; Outer(Card::new(1, 0, 0)); LONG]?;
+    let mut here = vec![in heap; Covering(Card::new(1, 0, 0)); LONG]?;
+    let mut there = vec![in heap; Covering(Card::new(1, 0, 0)); LONG]?;
     let mut rounds = long_table(heap)?;
     side_by_side(rt, title, &mut here, &mut there, &mut rounds, 65535)?;
     Ok(())
@@ -62,7 +55,7 @@ fn main(rt: HostRuntime) -> anyhow::Result<()> {
     few_places(&rt, "all others leave, 3 places", 3, &mut all_leave())?;
     few_places(&rt, "another payload, 4 places", 4, &mut other_payload())?;
     few_places(&rt, "levels 0 and 16, 4 places", 4, &mut drop_ends())?;
-    other_way(&rt, "the other kind, 3 places", &mut other_kind())?;
+    few_places(&rt, "the other kind, 3 places", 3, &mut other_kind())?;
     many_places(
         &rt,
         rt.alloc(),

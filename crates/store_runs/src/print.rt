@@ -21,10 +21,8 @@ fn show_from<E: Entry + fmt::Debug>(
     rounds: &[Round<E>],
     from: usize,
 ) -> io::Result<()> {
-    for (i, round) in rounds.iter().enumerate() {
-        if i >= from {
-            show(rt, round)?;
-        }
+    for round in rounds.iter().skip(from) {
+        show(rt, round)?;
     }
     Ok(())
 }

@@ -1,19 +1,20 @@
 // Lists of calls, each for an edge of what stores promise.
 use antichain::calls::{Call, Round};
+use antichain::kind::Covering;
 use set_entries::apart::apart;
 use set_entries::card::Card;
 use set_entries::kinds::{Inner, Outer};
 use std::alloc::Global;
 
-fn add(level: u8, set: u128, payload: u16) -> Round<Outer> {
-    Round::new(Call::Add(Outer(Card::new(level, set, payload))))
+fn add<const INSIDE: bool>(level: u8, set: u128, payload: u16) -> Round<Covering<Card, INSIDE>> {
+    Round::new(Call::Add(Covering(Card::new(level, set, payload))))
 }
 
 fn cover(level: u8, set: u128) -> Round<Outer> {
-    Round::new(Call::Cover(Outer(Card::new(level, set, 0))))
+    Round::new(Call::Cover(Covering(Card::new(level, set, 0))))
 }
 
-fn nth(k: usize) -> Round<Outer> {
+fn nth<E>(k: usize) -> Round<E> {
     Round::new(Call::Nth(k))
 }
 
@@ -109,28 +110,24 @@ pub(crate) fn drop_ends() -> [Round<Outer>; 11] {
     ]
 }
 
-fn add_inner(level: u8, set: u128, payload: u16) -> Round<Inner> {
-    Round::new(Call::Add(Inner(Card::new(level, set, payload))))
-}
-
 pub(crate) fn other_kind() -> [Round<Inner>; 8] {
     [
-        add_inner(7, 0b0111, 0),
-        add_inner(7, 0b1110, 0),
-        add_inner(7, 0b1111, 0),
-        add_inner(6, 0b1111, 0),
-        add_inner(7, 0b0110, 0),
+        add(7, 0b0111, 0),
+        add(7, 0b1110, 0),
+        add(7, 0b1111, 0),
+        add(6, 0b1111, 0),
+        add(7, 0b0110, 0),
         Round::new(Call::Count),
-        Round::new(Call::Nth(0)),
-        Round::new(Call::Nth(1)),
+        nth(0),
+        nth(1),
     ]
 }
 
 // More additions than a store may hold, of entries that do not cover each other, and one that covers a whole level.
 pub(crate) fn long_table(heap: Global) -> anyhow::Result<Vec<Round<Outer>>> {
     let mut rounds = Vec::new(heap);
-    for i in 0..=65535 {
-        rounds.push(Round::new(Call::Add(Outer(apart(i)))))?;
+    for i in 0..=u16::MAX {
+        rounds.push(Round::new(Call::Add(Covering(apart(i)))))?;
     }
     rounds.push(add(16, 1 << 100, 0))?;
     rounds.push(Round::new(Call::Count))?;

@@ -1,0 +1,63 @@
+// Entries that cover by inclusion of sets.
+ghost use Rattle.std.specs.Prelude.{◌≡◌, ℕ, ◌≤◌};
+ghost use Rattle.antichain.specs.Limits.{max_level};
+ghost use Rattle.antichain.specs.Entries.{comes_before, covers_by};
+ghost use Rattle.antichain.specs.Inclusion.{covering, covering_itself, covering_on, covering_both, rules_by};
+
+use crate::entry::Entry;
+use std::fmt;
+
+// A set of numbers below 128, as a number with a bit for each, at a level from 1 to 16.
+pub trait LeveledSet: Copy {
+    ghost level: { Self → ℕ };
+
+    ghost set: { Self → ℕ };
+
+    fn level(&self) -> u8
+        ensures { result ≡ level self.now };
+
+    fn set(&self) -> u128
+        ensures { result ≡ set self.now };
+
+    ghost range: { (x : Self) → (1 ≤ level x) × (level x ≤ max_level) };
+}
+
+// A kind of entry: with INSIDE it covers the sets that lie inside its own, and else those that its own lies inside.
+#[derive(Clone, Copy)]
+pub struct Covering<T, const INSIDE: bool>(pub T);
+
+impl<T: fmt::Debug, const INSIDE: bool> fmt::Debug for Covering<T, INSIDE> {
+    // As what it is made of.
+    fn fmt<W: fmt::Write>(&self, f: &mut fmt::Formatter<W>) -> fmt::Result {
+        self.0.fmt(f)
+    }
+}
+
+impl<T: LeveledSet, const INSIDE: bool> Entry for Covering<T, INSIDE> {
+    ghost level = { λ x. T.level x.0 };
+
+    ghost set = { λ x. T.set x.0 };
+
+    ghost covers = { λ x y. covers_by (covering INSIDE) (T.level x.0) (T.set x.0) (T.level y.0) (T.set y.0) };
+
+    ghost before = { λ x y. comes_before (T.level x.0) (T.set x.0) (T.level y.0) (T.set y.0) };
+
+    ghost rules = { rules_by (covering INSIDE) (λ x. T.level x.0) (λ x. T.set x.0) (λ x. T.range x.0) (covering_itself INSIDE) (covering_on INSIDE) (covering_both INSIDE) };
+
+    fn level(&self) -> u8 {
+        self.0.level()
+    }
+
+    fn covers(&self, other: &Self) -> bool {
+        let (inner, outer) = if INSIDE {
+            (other.0.set(), self.0.set())
+        } else {
+            (self.0.set(), other.0.set())
+        };
+        self.0.level() == other.0.level() && inner & outer == inner
+    }
+
+    fn before(&self, other: &Self) -> bool {
+        (self.0.level(), self.0.set()) < (other.0.level(), other.0.set())
+    }
+}
