@@ -1,5 +1,5 @@
 -- How a play goes on, turn by turn.
-use Rattle.std.proofs.Common.{◌≡◌, ℕ, ◌+◌, ◌-◌, ◌<◌, ◌≤◌, Bool, true, false, List, [], ◌∷◌, length, sym, refl, ap, subst, ap₂, arith}
+use Rattle.std.proofs.Common.{◌≡◌, ℕ, ◌+◌, ◌-◌, ◌<◌, ◌≤◌, Bool, true, false, List, [], ◌∷◌, length, sym, refl, ap, subst, ap₂, ◌∙◌, arith}
 use Rattle.std.proofs.lemmas.Bool.{both_ways, not-true, ltb-true, ltb-false}
 use Rattle.truth.specs.Limits.{max_blocks}
 use Rattle.truth.specs.Syntax.{Block, Qbf}
@@ -9,6 +9,7 @@ use Rattle.certificate.specs.declared.position.Position.{Position}
 use Rattle.certificate.specs.declared.outcome.Outcome.{Outcome}
 use Rattle.certificate.specs.declared.outcome.Outcome.TheVariants.{Ended, Due}
 use Rattle.certificate.specs.declared.accepted.Accepted.{Accepted}
+use Rattle.certificate.specs.declared.scene.Scene.{Scene}
 use Rattle.certificate.specs.declared.turns.OtherTurn.{OtherTurn}
 use Rattle.certificate.specs.declared.turns.HolderTurn.{HolderTurn}
 use Rattle.certificate.specs.declared.turns.Ended.{Ended as End}
@@ -18,7 +19,7 @@ use Rattle.certificate.specs.Movers.{reply_due, value_due, nothing_due, is_value
 use Rattle.certificate.specs.Accepting.{blocks_from}
 use Rattle.certificate.specs.Plays.{lends, moved, Played, Played.ended, Played.waits, Played.refused, Played.taken, Played.replied}
 use Rattle.certificate.specs.Games.{formula_of, verdict_of, entries_of, root_at, blocks_at, onward}
-use Rattle.certificate.specs.Views.{At}
+use Rattle.certificate.specs.Views.{scene_of, At}
 use Rattle.certificate.proofs.FromLevel.{next_blocks, level_there}
 use Rattle.certificate.proofs.Checking.{few_levels}
 
@@ -77,47 +78,55 @@ same_game : (a b : Accepted) (p q : Position) (rest offers : List ℕ) → b ≡
 same_game a b p q rest offers e d k = subst (λ x. Continues x q rest offers) (sym e) (subst (λ x. Continues a x rest offers) (sym d) k)
 
 module _ (a : Accepted) (turn : Turn) (rest offers : List ℕ) (g : Going a turn rest offers) where
+  module _ (s : Scene) (e : scene_of turn ≡ s) where
+    same_play : s.game ≡ a
+    same_play = ap (λ z. z.game) (sym e) ∙ g.1.0.0
+
+    goes_on : Continues s.game s.at rest offers
+    goes_on = same_game a s.game g.0 s.at rest offers same_play (ap (λ z. z.at) (sym e) ∙ g.1.0.1) g.1.1
+
   module _ (h : HolderTurn) (e : turn ≡ Holder h) where
-    pub go_replied : (w : ℕ) (next : Turn) → lends (verdict_of h.game) (entries_of h.game) h.at.level h.at.set w ≡ true → At next h.game (onward h.game h.at w) → Going a next rest offers
+    pub go_replied : (w : ℕ) (next : Turn) → lends (verdict_of h.scene.game) (entries_of h.scene.game) h.scene.at.level h.scene.at.set w ≡ true → At next h.scene.game (onward h.scene.game h.scene.at w) →
+        Going a next rest offers
     go_replied w next lent at =
-        let t = subst (λ u. At u a g.0) e g.1.0 in
-        let k = same_game a h.game g.0 h.at rest offers t.0 t.1 g.1.1 in
-        subst (λ x. Going x next rest offers) t.0
-        (onward h.game h.at w, (at, λ o j. k o (step_replied _ _ _ h.at o rest w h.due lent j)))
+        let k = goes_on h.scene (ap scene_of e) in
+        subst (λ x. Going x next rest offers) (same_play h.scene (ap scene_of e))
+        (onward h.scene.game h.scene.at w, (at, λ o j. k o (step_replied _ _ _ h.scene.at o rest w h.due lent j)))
 
   module _ (h : OtherTurn) (e : turn ≡ Other h) where
-    pub go_taken : (w : ℕ) (after : List ℕ) (next : Turn) → rest ≡ w ∷ after → is_value (blocks_at h.game h.at) w ≡ true → At next h.game (onward h.game h.at w) → Going a next after offers
+    goes_after : (vs : List ℕ) → rest ≡ vs → Continues h.scene.game h.scene.at vs offers
+    goes_after vs d = subst (λ vs. Continues h.scene.game h.scene.at vs offers) d (goes_on h.scene (ap scene_of e))
+
+    pub go_taken : (w : ℕ) (after : List ℕ) (next : Turn) → rest ≡ w ∷ after → is_value (blocks_at h.scene.game h.scene.at) w ≡ true → At next h.scene.game (onward h.scene.game h.scene.at w) →
+        Going a next after offers
     go_taken w after next d is at =
-        let t = subst (λ u. At u a g.0) e g.1.0 in
-        let k = subst (λ vs. Continues h.game h.at vs offers) d (same_game a h.game g.0 h.at rest offers t.0 t.1 g.1.1) in
-        subst (λ x. Going x next after offers) t.0
-        (onward h.game h.at w, (at, λ o j. k o (step_taken _ _ _ h.at o after w h.due is j)))
+        let k = goes_after (w ∷ after) d in
+        subst (λ x. Going x next after offers) (same_play h.scene (ap scene_of e))
+        (onward h.scene.game h.scene.at w, (at, λ o j. k o (step_taken _ _ _ h.scene.at o after w h.due is j)))
 
-    pub go_refused : (w : ℕ) (after : List ℕ) (back : OtherTurn) → rest ≡ w ∷ after → is_value (blocks_at h.game h.at) w ≡ false → back ≡ h → Going a (Other back) after offers
+    pub go_refused : (w : ℕ) (after : List ℕ) (back : OtherTurn) → rest ≡ w ∷ after → is_value (blocks_at h.scene.game h.scene.at) w ≡ false → back ≡ h → Going a (Other back) after offers
     go_refused w after back d is same =
-        let t = subst (λ u. At u a g.0) e g.1.0 in
-        let k = subst (λ vs. Continues h.game h.at vs offers) d (same_game a h.game g.0 h.at rest offers t.0 t.1 g.1.1) in
-        subst (λ x. Going x (Other back) after offers) t.0
-        (h.at, (subst (λ b. At (Other b) h.game h.at) (sym same) (refl, refl), λ o j. k o (step_refused _ _ _ h.at o after w h.due is j)))
+        let k = goes_after (w ∷ after) d in
+        subst (λ x. Going x (Other back) after offers) (same_play h.scene (ap scene_of e))
+        (h.scene.at, (subst (λ b. At (Other b) h.scene.game h.scene.at) (sym same) (refl, refl), λ o j. k o (step_refused _ _ _ h.scene.at o after w h.due is j)))
 
-    pub go_waits : rest ≡ [] → Goes a (root_at a) offers (Due h.at.level)
-    go_waits d =
-        let t = subst (λ u. At u a g.0) e g.1.0 in
-        let k = subst (λ vs. Continues h.game h.at vs offers) d (same_game a h.game g.0 h.at rest offers t.0 t.1 g.1.1) in
-        subst (λ x. Goes x (root_at x) offers (Due h.at.level)) t.0 (k (Due h.at.level) (step_waits _ _ _ h.at _ h.due))
+    pub go_waits : (p : Position) → p ≡ h.scene.at → rest ≡ [] → Goes a (root_at a) offers (Due p.level)
+    go_waits p same d =
+        let out = Due h.scene.at.level in
+        rw same (subst (λ x. Goes x (root_at x) offers out) (same_play h.scene (ap scene_of e)) (goes_after [] d out (step_waits _ _ _ h.scene.at _ h.due)))
 
-  pub go_ended : (h : End) (s : ℕ) (played : Assignment) → turn ≡ Over h → s ≡ h.at.set → played ≡ h.at.played → Goes a (root_at a) offers (Ended s played)
+  pub go_ended : (h : End) (s : ℕ) (played : Assignment) → turn ≡ Over h → s ≡ h.scene.at.set → played ≡ h.scene.at.played → Goes a (root_at a) offers (Ended s played)
   go_ended h s played e same_set same-played =
-      let t = subst (λ u. At u a g.0) e g.1.0 in
-      let k = same_game a h.game g.0 h.at rest offers t.0 t.1 g.1.1 in
-      let out : Position → Outcome = λ p. Ended p.set p.played in
-      let same : out h.at ≡ Ended s played = ap₂ Ended (sym same_set) (sym same-played) in
-      subst (Goes a (root_at a) offers) same (subst (λ x. Goes x (root_at x) offers (out h.at)) t.0 (k (out h.at) (step_ended _ _ _ h.at rest _ h.due)))
+      let k = goes_on h.scene (ap scene_of e) in
+      let at = h.scene.at in
+      let same : Ended at.set at.played ≡ Ended s played = ap₂ Ended (sym same_set) (sym same-played) in
+      subst (Goes a (root_at a) offers) same
+      (subst (λ x. Goes x (root_at x) offers (Ended at.set at.played)) (same_play h.scene (ap scene_of e)) (k (Ended at.set at.played) (step_ended _ _ _ at rest _ h.due)))
 
 -- How many levels are left, at most.
 abbrev pub height : Turn → ℕ
-height (Other t) = (max_blocks + 2) - t.at.level
-height (Holder t) = (max_blocks + 2) - t.at.level
+height (Other t) = (max_blocks + 2) - t.scene.at.level
+height (Holder t) = (max_blocks + 2) - t.scene.at.level
 height (Over t) = 0
 
 height-at : (turn : Turn) (a : Accepted) (p : Position) → At turn a p → height turn ≤ (max_blocks + 2) - p.level
@@ -146,10 +155,10 @@ value_some : (v : Bool) (rs : List Block) → value_due v rs ≡ true → nothin
 value_some v [] i = sym i
 value_some v (b ∷ bs) i = refl
 
-pub lower_replied : (turn next : Turn) (h : HolderTurn) (w : ℕ) → turn ≡ Holder h → At next h.game (onward h.game h.at w) → height next < height turn
+pub lower_replied : (turn next : Turn) (h : HolderTurn) (w : ℕ) → turn ≡ Holder h → At next h.scene.game (onward h.scene.game h.scene.at w) → height next < height turn
 lower_replied turn next h w e at =
-    subst (λ t. height next < height t) (sym e) (lower h.game h.at w next _ refl (reply_some _ _ h.due) at)
+    subst (λ t. height next < height t) (sym e) (lower h.scene.game h.scene.at w next _ refl (reply_some _ _ h.due) at)
 
-pub lower_taken : (turn next : Turn) (h : OtherTurn) (w : ℕ) → turn ≡ Other h → At next h.game (onward h.game h.at w) → height next < height turn
+pub lower_taken : (turn next : Turn) (h : OtherTurn) (w : ℕ) → turn ≡ Other h → At next h.scene.game (onward h.scene.game h.scene.at w) → height next < height turn
 lower_taken turn next h w e at =
-    subst (λ t. height next < height t) (sym e) (lower h.game h.at w next _ refl (value_some _ _ h.due) at)
+    subst (λ t. height next < height t) (sym e) (lower h.scene.game h.scene.at w next _ refl (value_some _ _ h.due) at)

@@ -13,4 +13,5 @@ pub mod outcome;
 pub mod plays;
 pub mod position;
 pub mod runs;
+mod scene;
 pub mod turns;

@@ -30,7 +30,7 @@ pub fn play_all(game: Accepted, offers: &[u16]) -> Outcome
             Turn::Other(other) => {
                 let Some((value, after)) = rest.split_first() else {
                     return Outcome::Due {
-                        level: other.at.level,
+                        level: other.position().level,
                     };
                 };
                 rest = after;

@@ -4,7 +4,7 @@ use Rattle.certificate.proofs.Going.{go_start, go_replied, go_taken, go_refused,
 use Rattle.certificate.proofs.runs.play_all.Goals as goal
 
 pub loop-turn-init : goal.loop-turn-init
-loop-turn-init c = go_start c.args.game _ _ c.begin-turn.ensures.root
+loop-turn-init c = go_start c.args.game c.begin-turn.result _ c.begin-turn.ensures.root
 
 pub returns-in-Over : goal.returns-in-Over
 returns-in-Over c =
@@ -13,23 +13,23 @@ returns-in-Over c =
 
 pub returns-in_default : goal.returns-in_default
 returns-in_default c =
-    let run = go_waits c.args.game _ _ _ c.loop-turn.invariant _ c.in-Other.is (nil_from_length _ c.in_default.ensures.cases) in
+    let run = go_waits c.args.game _ _ _ c.loop-turn.invariant _ c.in-Other.is _ c.position.ensures (nil_from_length _ c.in_default.ensures.cases) in
     record { played = run; plays = c.begin-turn.ensures.plays; right = c.begin-turn.ensures.plays.right _ _ run }
 
 pub loop-turn-smaller-in-Holder : goal.loop-turn-smaller-in-Holder
-loop-turn-smaller-in-Holder c = omega (arith, lower_replied c.loop-turn.turn _ _ _ c.in-Holder.is c.reply.ensures.next)
+loop-turn-smaller-in-Holder c = omega (arith, lower_replied c.loop-turn.turn c.reply.result.1 _ _ c.in-Holder.is c.reply.ensures.next)
 
 pub loop-turn-preserved-in-Holder : goal.loop-turn-preserved-in-Holder
-loop-turn-preserved-in-Holder c = go_replied c.args.game _ _ _ c.loop-turn.invariant _ c.in-Holder.is _ _ c.reply.ensures.lent c.reply.ensures.next
+loop-turn-preserved-in-Holder c = go_replied c.args.game _ _ _ c.loop-turn.invariant _ c.in-Holder.is _ c.reply.result.1 c.reply.ensures.lent c.reply.ensures.next
 
 pub loop-turn-smaller-in-Ok : goal.loop-turn-smaller-in-Ok
 loop-turn-smaller-in-Ok c =
-    omega (arith, lower_taken c.loop-turn.turn _ _ _ c.in-Other.is c.in-Ok.ensures.1, ap length c.in-Some.ensures.cases.0)
+    omega (arith, lower_taken c.loop-turn.turn c.in-Ok.next _ _ c.in-Other.is c.in-Ok.ensures.1, ap length c.in-Some.ensures.cases.0)
 
 pub loop-turn-preserved-in-Ok : goal.loop-turn-preserved-in-Ok
 loop-turn-preserved-in-Ok c =
     let t = c.in-Ok.ensures in
-    go_taken c.args.game _ _ _ c.loop-turn.invariant _ c.in-Other.is _ _ _ c.in-Some.ensures.cases.0 t.0 t.1
+    go_taken c.args.game _ _ _ c.loop-turn.invariant _ c.in-Other.is _ _ c.in-Ok.next c.in-Some.ensures.cases.0 t.0 t.1
 
 pub loop-turn-preserved : goal.loop-turn-preserved
 loop-turn-preserved c =
