@@ -60,15 +60,15 @@ numerals-made (p ∷ ps) cs e =
     then_some (numeral p) _ cs e (λ n d e. then_some (numerals ps) _ cs e (λ ns r e.
     let is : n ∷ ns ≡ cs = cc in rw (← is) (ap₂ (λ x t. x ∷ t) (numeral-made p n d).0 (numerals-made ps ns r))))
 
-glue_decimals : (c : ℕ) (cs : List ℕ) → glue (map decimal (c ∷ cs)) ≡ decimal c ++ listed_numbers true cs
+glue_decimals : (c : ℕ) (cs : List ℕ) → glue (map decimal (c ∷ cs)) ≡ decimal c ++ listed_numbers (44 ∷ []) cs
 glue_decimals c [] = sym (append-nil (decimal c))
 glue_decimals c (d ∷ cs) = ap (λ t. decimal c ++ (44 ∷ t)) (glue_decimals d cs)
 
 -- One number at least.
-numbers_made : (w cs : List ℕ) → numerals (pieces w) ≡ Some cs → (w ≡ listed_numbers false cs) × (0 < length cs)
+numbers_made : (w cs : List ℕ) → numerals (pieces w) ≡ Some cs → (w ≡ listed_numbers [] cs) × (0 < length cs)
 numbers_made w cs e = by cs (numerals-made (pieces w) cs e)
   where
-    by : (cs : List ℕ) → pieces w ≡ map decimal cs → (w ≡ listed_numbers false cs) × (0 < length cs)
+    by : (cs : List ℕ) → pieces w ≡ map decimal cs → (w ≡ listed_numbers [] cs) × (0 < length cs)
     by [] m = absurd (omega (arith, pieces-some w, ap length m))
     by (c ∷ cs) m = (sym (glue-pieces w) ∙ ap glue m ∙ glue_decimals c cs, omega arith)
 

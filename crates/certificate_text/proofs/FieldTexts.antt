@@ -1,5 +1,5 @@
 -- The fields that are written are read back.
-use Rattle.std.proofs.Common.{◌≡◌, ℕ, zero, suc, ◌+◌, ◌-◌, ◌*◌, ◌/◌, ◌%◌, ◌^◌, ◌<◌, ◌≤◌, Bool, true, false, eqb, List, [], ◌∷◌, ◌++◌, length, Some, codes, decimal, sym, refl, ap, ◌∙◌, inl, inr, mul_assoc, add-mul, one-mul, pow-suc, zero-mul, mul-one, arith}
+use Rattle.std.proofs.Common.{◌≡◌, ℕ, zero, suc, ◌+◌, ◌-◌, ◌*◌, ◌/◌, ◌%◌, ◌^◌, ◌<◌, ◌≤◌, true, false, eqb, List, [], ◌∷◌, ◌++◌, length, Some, codes, decimal, sym, refl, ap, ◌∙◌, inl, inr, mul_assoc, add-mul, one-mul, pow-suc, zero-mul, mul-one, arith}
 use Rattle.std.specs.List.{AllByRecursion, list_all}
 use Rattle.std.proofs.lemmas.List.Folds.{list_all-append}
 use Rattle.std.proofs.lemmas.Fmt.{decimal_is_IsNumeral, decimal_nonempty}
@@ -89,11 +89,11 @@ piece_last : (ds : List ℕ) → Digits ds → pieces ds ≡ ds ∷ []
 piece_last [] d = refl
 piece_last (b ∷ ds) d = rw (ne_eqb b 44 (λ e. omega (arith, d.0.0))) (ap (onto b) (piece_last ds d.1))
 
-numbers_read : (c : ℕ) (cs : List ℕ) → c < 10 ^ 9 → AllByRecursion (λ x. x < 10 ^ 9) cs → numerals (pieces (decimal c ++ listed_numbers true cs)) ≡ Some (c ∷ cs)
+numbers_read : (c : ℕ) (cs : List ℕ) → c < 10 ^ 9 → AllByRecursion (λ x. x < 10 ^ 9) cs → numerals (pieces (decimal c ++ listed_numbers (44 ∷ []) cs)) ≡ Some (c ∷ cs)
 numbers_read c [] h l =
     ap (λ t. numerals (pieces t)) (append-nil (decimal c)) ∙ ap numerals (piece_last (decimal c) (decimal_digits c h)) ∙ rw (numeral-decimal c h)
 numbers_read c (d ∷ cs) h l =
-    ap numerals (piece_more (decimal c) (decimal d ++ listed_numbers true cs) (decimal_digits c h))
+    ap numerals (piece_more (decimal c) (decimal d ++ listed_numbers (44 ∷ []) cs) (decimal_digits c h))
     ∙ rw (numeral-decimal c h, numbers_read d cs l.0 l.1)
 
 no_dash : (c : ℕ) (rest : List ℕ) → c < 10 ^ 9 → is_dash (decimal c ++ rest) ≡ false
@@ -101,18 +101,18 @@ no_dash c rest h =
     let first = get_or_append_left (decimal c) rest 0 0 (decimal_nonempty c (omega arith)) in
     and_right _ _ (ne_eqb _ 45 (λ e. decimal_no_minus c h (sym first ∙ e)))
 
-clauses_read : (cs : List ℕ) → 0 < length cs → AllByRecursion (λ x. x < 10 ^ 9) cs → clauses_of (listed_numbers false cs) ≡ Some cs
+clauses_read : (cs : List ℕ) → 0 < length cs → AllByRecursion (λ x. x < 10 ^ 9) cs → clauses_of (listed_numbers [] cs) ≡ Some cs
 clauses_read [] some l = absurd (omega arith)
-clauses_read (c ∷ cs) some l = rw (no_dash c (listed_numbers true cs) l.0) (numbers_read c cs l.0 l.1)
+clauses_read (c ∷ cs) some l = rw (no_dash c (listed_numbers (44 ∷ []) cs) l.0) (numbers_read c cs l.0 l.1)
 
-numbers_solid : (cs : List ℕ) (others : Bool) → AllByRecursion (λ x. x < 10 ^ 9) cs → Solid (listed_numbers others cs)
-numbers_solid [] others l = tt
-numbers_solid (c ∷ cs) true l = (omega arith, All-append (λ b. 33 ≤ b) (decimal c) _ (decimal_solid c l.0) (numbers_solid cs true l.1))
-numbers_solid (c ∷ cs) false l = All-append (λ b. 33 ≤ b) (decimal c) _ (decimal_solid c l.0) (numbers_solid cs true l.1)
+numbers_solid : (cs before : List ℕ) → Solid before → AllByRecursion (λ x. x < 10 ^ 9) cs → Solid (listed_numbers before cs)
+numbers_solid [] before b l = tt
+numbers_solid (c ∷ cs) before b l =
+    All-append (λ b. 33 ≤ b) before (decimal c ++ listed_numbers (44 ∷ []) cs) b (All-append (λ b. 33 ≤ b) (decimal c) _ (decimal_solid c l.0) (numbers_solid cs (44 ∷ []) (omega arith, tt) l.1))
 
-numbers_some : (cs : List ℕ) → 0 < length cs → AllByRecursion (λ x. x < 10 ^ 9) cs → 0 < length (listed_numbers false cs)
+numbers_some : (cs : List ℕ) → 0 < length cs → AllByRecursion (λ x. x < 10 ^ 9) cs → 0 < length (listed_numbers [] cs)
 numbers_some [] some l = absurd (omega arith)
-numbers_some (c ∷ cs) some l = let d = decimal_nonempty c (omega (arith, l.0)) in rw length-append (omega arith)
+numbers_some (c ∷ cs) some l = let d = decimal_nonempty c (omega (arith, l.0)) in rw (length-append (decimal c) (listed_numbers (44 ∷ []) cs)) (omega arith)
 
 -- A set of the first n clauses.
 module _ (n s : ℕ) (few : n ≤ 128) (low : s < 2 ^ n) where
@@ -143,7 +143,7 @@ module _ (n s : ℕ) (few : n ≤ 128) (low : s < 2 ^ n) where
   set_field_lem =
       elim (cases_eq s 0) [
         | inl z ↦ rw (eq-eqb s 0 z) (solid_field (codes "-") (omega arith) (omega arith, tt), (omega arith, tt))
-        | inr some ↦ rw (ne_eqb s 0 some) (let solid = numbers_solid cs false cs_low in (solid_field (listed_numbers false cs) (numbers_some cs (cs_some some) cs_low) solid, solid))
+        | inr some ↦ rw (ne_eqb s 0 some) (let solid = numbers_solid cs [] tt cs_low in (solid_field (listed_numbers [] cs) (numbers_some cs (cs_some some) cs_low) solid, solid))
       ]
 
 -- Binary digits.

@@ -1,6 +1,6 @@
 -- What holds of every formula that was read.
-use Rattle.std.proofs.Common.{◌≡◌, ℕ, zero, suc, ◌≤◌, true, leb, List, [], ◌∷◌, length, take, Some, None, Option, arith}
-use Rattle.std.specs.Option.{option_map}
+use Rattle.std.proofs.Common.{◌≡◌, ℕ, zero, suc, ◌≤◌, true, leb, List, [], ◌∷◌, length, take, Some, None, Option, refl, arith}
+use Rattle.std.specs.Option.{option_map, unwrap_or}
 use Rattle.std.proofs.lemmas.List.{length-map, length-take-le}
 use Rattle.std.proofs.lemmas.Bool.{and_parts, leb-true}
 use Rattle.truth.specs.Limits.{max_clauses, max_blocks, max_width}
@@ -41,12 +41,16 @@ width_low f level w e =
     let r = width_within (qbf_of f).prefix level w f.widths e in
     (omega (arith, r.0, few_blocks f), r.1)
 
-pub width_told : (f : Qbf) (level w : ℕ) → Some w ≡ width f.prefix level → w ≡ width_at f level
-width_told f level w e = by (numbered f.prefix level) e
+pub width_told : (f : Qbf) (level : ℕ) (o : Option ℕ) (w : ℕ) → o ≡ width f.prefix level → w ≡ unwrap_or o 0 → w ≡ width_at f level
+width_told f level o w e is =
+    rw (is, e) (elim (numbered f.prefix level) as (λ o. unwrap_or (option_map (λ b. length b.variables) o) 0 ≡ elim o [ None ↦ 0 | Some b ↦ length b.variables ]) [ None ↦ refl | Some b ↦ refl ])
+
+pub width_at_low : (f : Formula) (level : ℕ) → width_at (qbf_of f) level ≤ max_width
+width_at_low f level = by (numbered (qbf_of f).prefix level) refl
   where
-    by : (o : Option Block) → Some w ≡ option_map (λ b. length b.variables) o → ◌≡◌ {A = ℕ} w (elim o [ None ↦ 0 | Some b ↦ length b.variables ])
-    by None e = absurd (let z : ◌≡◌ {A = ℕ} 0 1 = cc in omega arith)
-    by (Some b) e = cc
+    by : (o : Option Block) → numbered (qbf_of f).prefix level ≡ o → width_at (qbf_of f) level ≤ max_width
+    by None e = rw (e, width_at) (omega arith)
+    by (Some b) e = rw (e, width_at) (width_low f level (length b.variables) (rw e)).1
 
 pub formula_formed : (f : Formula) → WellFormed (qbf_of f)
 formula_formed f = record {

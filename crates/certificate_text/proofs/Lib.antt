@@ -5,6 +5,7 @@ mod ReplySteps
 mod EntrySteps
 pub mod EntryFits
 pub mod Placed
+mod Lengths
 mod FieldTexts
 pub mod ReadingBack
 mod FieldForms

@@ -16,7 +16,7 @@ use Rattle.truth.specs.declared.verdict.Verdict.TheVariants.{True, False}
 use Rattle.truth.specs.Places.{numbered}
 use Rattle.truth.specs.Sides.{owes}
 use Rattle.truth.specs.Syntax.{Qbf}
-use Rattle.truth.specs.Verdicts.{is_true}
+use Rattle.truth.specs.Verdicts.{is_true, verdict_word}
 use Rattle.truth.specs.WellFormed.{all}
 use Rattle.formula_text.specs.Form.{Pairwise}
 use Rattle.formula_text.specs.Parse.{fault}
@@ -29,7 +29,7 @@ use Rattle.certificate_text.specs.declared.heading.Claim.{Claim}
 use Rattle.certificate_text.specs.SetField.{take_set}
 use Rattle.certificate_text.specs.ReplyField.{reply_formed, reply_of, take_reply}
 use Rattle.certificate_text.specs.Parse.{take_word, take_words, heading_of, heading_line, verdict_words, entry_words, verdict_of, take_verdict, claim_of, read_verdict, verdict_line, EntryFields, entry_fields, read_entry, entry_lines, stopped, parse_certificate}
-use Rattle.certificate_text.specs.CertificateText.{set_text, reply_text, width_at, verdict_word}
+use Rattle.certificate_text.specs.CertificateText.{set_text, reply_text, width_at}
 use Rattle.certificate_text.specs.Form.{ThreeFields, ClaimLine, EntryLine, CertificateForm}
 use Rattle.certificate_text.proofs.EntryFits.{ok_or_lem, reply_formed_lem, entries_fit, from_ok}
 use Rattle.certificate_text.proofs.FieldForms.{set_taken_made, reply_made}

@@ -1,58 +1,71 @@
 -- One text put after another.
-use Rattle.std.proofs.Common.{◌≡◌, ℕ, zero, suc, ◌+◌, ◌-◌, ◌/◌, ◌%◌, ◌^◌, ◌<◌, ◌≤◌, Bool, true, false, cond, ◌||◌, eqb, List, [], ◌∷◌, ◌++◌, length, get_or, take, drop, set, Some, None, Ok, Err, codes, decimal, sym, refl, ap, ◌∙◌, subst, add-zero, zero-add, arith}
+use Rattle.std.proofs.Common.{◌≡◌, ℕ, zero, suc, ◌+◌, ◌-◌, ◌/◌, ◌%◌, ◌^◌, ◌<◌, ◌≤◌, List, [], ◌∷◌, ◌++◌, length, min, get_or, take, drop, set, Some, None, Ok, Err, codes, decimal, sym, refl, ap, ◌∙◌, subst, add-zero, zero-add, arith}
 use Rattle.std.specs.List.{slice_get}
 use Rattle.std.proofs.lemmas.Option.{slice_get-get_or}
-use Rattle.std.proofs.lemmas.Bool.{le-leb, lt-leb}
-use Rattle.faults.specs.declared.cause.Cause.TheVariants.{BufferShort}
-use Rattle.formula_text.specs.Parse.{fault}
+use Rattle.std.proofs.lemmas.Bool.{le-leb, lt-leb, eq-eqb, ne_eqb}
 use Rattle.std.proofs.lemmas.List.{append_assoc, length-append, length_push, length-set, take_more_set, take-append-drop, drop-set-lt, at_drop_more, at_drop_all}
-use Rattle.std.proofs.lemmas.Fmt.{decimal_digit, decimal_step, length-decimal-le}
+use Rattle.std.proofs.lemmas.Fmt.{decimal_digit, decimal_step}
+use Rattle.faults.specs.declared.cause.Cause.TheVariants.{BufferShort}
+use Rattle.faults.specs.declared.fault.Fault.{Fault}
+use Rattle.formula_text.specs.Parse.{fault}
 use Rattle.truth.specs.declared.verdict.Verdict.{Verdict}
 use Rattle.truth.specs.Syntax.{Qbf}
 use Rattle.entries.specs.declared.entry.Entry.{Entry}
-use Rattle.certificate_text.specs.CertificateText.{clauses_from, clause_text, listed_numbers, binary_text, spaced, entry_text, claim_text, entries_text, certificate_text, writing, written}
-use Rattle.certificate_text.specs.Placing.{put, Puts}
+use Rattle.certificate_text.specs.declared.writer.Writer.{Writer}
+use Rattle.certificate_text.specs.CertificateText.{clauses_from, listed_numbers, binary_text, spaced, entry_text, claim_text, entries_text, certificate_text, writing, written}
+use Rattle.certificate_text.specs.Writing.{put, state, Wrote, max_line}
 
-pub put-put : (at n : ℕ) (a b buffer : List ℕ) → n ≡ at + length a → put n b (put at a buffer) ≡ put at (a ++ b) buffer
-put-put at n [] b buffer e = ap (λ k. put k b buffer) (e ∙ add-zero at)
-put-put at n (x ∷ a) b buffer e = put-put (at + 1) n a b (set buffer at x) (omega arith)
+pub put-append : (a b : List ℕ) (s : ℕ × List ℕ) → put (a ++ b) s ≡ put b (put a s)
+put-append [] b s = refl
+put-append (x ∷ a) b s = put-append a b (min (s.0 + 1) (2 ^ 64 - 1), set s.1 s.0 x)
 
--- A text that has room stands in the buffer, and all else is as it was.
-put_within : (at : ℕ) (text buffer : List ℕ) → at + length text ≤ length buffer → put at text buffer ≡ take at buffer ++ (text ++ drop (at + length text) buffer)
-put_within at [] buffer room = sym (ap (λ k. take at buffer ++ drop k buffer) (add-zero at) ∙ take-append-drop at buffer)
-put_within at (b ∷ bs) buffer room =
+pub wrote_more : {o m n : Writer} {a b : List ℕ} → Wrote o m a → Wrote m n b → Wrote o n (a ++ b)
+wrote_more {o} {m} {n} {a} {b} p q = record { same = q.same ∙ p.same; after = q.after ∙ ap (put b) p.after ∙ sym (put-append a b (state o)) }
+
+-- The same text in other words.
+pub wrote_same : {o n : Writer} {a b : List ℕ} → Wrote o n a → a ≡ b → Wrote o n b
+wrote_same {o} {n} p e = subst (Wrote o n) e p
+
+-- The first part of what is left was put: the rest, put behind it, still gives the whole.
+pub left_more : {o n : Writer} (left first rest : List ℕ) (whole : ℕ × List ℕ) → left ≡ first ++ rest → Wrote o n first → put left (state o) ≡ whole → put rest (state n) ≡ whole
+left_more {o} {n} left first rest whole e w s = ap (put rest) w.after ∙ sym (put-append first rest (state o)) ∙ ap (λ t. put t (state o)) (sym e) ∙ s
+
+-- A text whose length the count holds is counted, and one that has room stands in the buffer, with all else as it was.
+
+one_more : (n : ℕ) → n + 1 < 2 ^ 64 → min (n + 1) (2 ^ 64 - 1) ≡ n + 1
+one_more n h = omega arith
+
+put_count : (at : ℕ) (text buffer : List ℕ) → at + length text < 2 ^ 64 → (put text (at, buffer)).0 ≡ at + length text
+put_count at [] buffer room = sym (add-zero at)
+put_count at (b ∷ bs) buffer room =
+    let next : at + 1 + length bs ≡ at + length (b ∷ bs) = omega arith in
+    ap (λ k. (put bs (k, set buffer at b)).0) (one_more at (omega arith)) ∙ put_count (at + 1) bs (set buffer at b) (omega arith) ∙ next
+
+put_within : (at : ℕ) (text buffer : List ℕ) → at + length text < 2 ^ 64 → at + length text ≤ length buffer → (put text (at, buffer)).1 ≡ take at buffer ++ (text ++ drop (at + length text) buffer)
+put_within at [] buffer low room = sym (ap (λ k. take at buffer ++ drop k buffer) (add-zero at) ∙ take-append-drop at buffer)
+put_within at (b ∷ bs) buffer low room =
     let sets = length-set buffer at b in
     let next : at + 1 + length bs ≡ at + length (b ∷ bs) = omega arith in
-    put_within (at + 1) bs (set buffer at b) (omega arith)
+    ap (λ k. (put bs (k, set buffer at b)).1) (one_more at (omega arith))
+    ∙ put_within (at + 1) bs (set buffer at b) (omega arith) (omega arith)
     ∙ ap (λ t. t ++ (bs ++ drop (at + 1 + length bs) (set buffer at b))) (take_more_set buffer at b (omega arith))
     ∙ append_assoc (take at buffer) (b ∷ []) _
     ∙ ap (λ t. take at buffer ++ (b ∷ (bs ++ t))) (drop-set-lt (at + 1 + length bs) buffer at b (omega arith) ∙ ap (λ k. drop k buffer) next)
 
-pub put_front : (text buffer : List ℕ) → length text ≤ length buffer → put 0 text buffer ≡ text ++ drop (length text) buffer
-put_front text buffer room = put_within 0 text buffer (omega arith) ∙ ap (λ k. text ++ drop k buffer) (zero-add (length text))
-
 -- Bytes of a slice, from the i-th on.
-pub put_more : (xs buffer : List ℕ) (i next : ℕ) → i < length xs → put (next + 1) (drop (i + 1) xs) (set buffer next (get_or xs i 0)) ≡ put next (drop i xs) buffer
-put_more xs buffer i next h = sym (at_drop_more (λ ys. put next ys buffer) xs i 0 h)
+pub put_next : (xs : List ℕ) (i : ℕ) (s : ℕ × List ℕ) → i < length xs → put (drop i xs) s ≡ put (drop (i + 1) xs) (put (get_or xs i 0 ∷ []) s)
+put_next xs i s h = at_drop_more (λ ys. put ys s) xs i 0 h
 
-pub put_all : (xs buffer : List ℕ) (i next : ℕ) → length xs ≤ i → put next (drop i xs) buffer ≡ buffer
-put_all xs buffer i next h = at_drop_all (λ ys. put next ys buffer) xs i h
+pub put_all : (xs : List ℕ) (i : ℕ) (s : ℕ × List ℕ) → length xs ≤ i → put (drop i xs) s ≡ s
+put_all xs i s h = at_drop_all (λ ys. put ys s) xs i h
 
 -- Decimal digits.
 
-pub length_one : (n : ℕ) → n < 10 → length (decimal n) ≡ 1
-length_one n h = ap length (decimal_digit n h)
+pub last_digit : (n : ℕ) → n < 10 → (48 + n % 10) ∷ [] ≡ decimal n
+last_digit n h = let same : n % 10 ≡ n = omega arith in rw (same, decimal_digit n h)
 
-pub length_more : (n : ℕ) → 10 ≤ n → n < 2 ^ 32 → length (decimal n) ≡ length (decimal (n / 10)) + 1
-length_more n h l = ap length (decimal_step n h (omega arith)) ∙ length_push (decimal (n / 10)) (48 + n % 10)
-
-pub length_most : (n : ℕ) → n < 2 ^ 32 → length (decimal n) ≤ 10
-length_most n l = length-decimal-le 10 n (omega arith) (omega arith) (omega arith)
-
--- A number's front put, and then its last digit.
-pub put_digit : (at next n : ℕ) (buffer : List ℕ) → 10 ≤ n → n < 2 ^ 32 → next ≡ at + length (decimal (n / 10)) → put next ((48 + n % 10) ∷ []) (put at (decimal (n / 10)) buffer) ≡ put at (decimal n) buffer
-put_digit at next n buffer h l e =
-    put-put at next (decimal (n / 10)) ((48 + n % 10) ∷ []) buffer e ∙ ap (λ t. put at t buffer) (sym (decimal_step n h (omega arith)))
+pub digit_more : (n : ℕ) → 10 ≤ n → n < 2 ^ 32 → decimal (n / 10) ++ ((48 + n % 10) ∷ []) ≡ decimal n
+digit_more n h l = sym (decimal_step n h (omega arith))
 
 -- Binary digits.
 
@@ -60,45 +73,27 @@ pub length-binary : (width v : ℕ) → length (binary_text width v) ≡ width
 length-binary zero v = refl
 length-binary (suc k) v = let r = length-binary k (v / 2) in omega (arith, length_push (binary_text k (v / 2)) (48 + v % 2))
 
-pub put-bit : (at next width v : ℕ) (buffer : List ℕ) → (width ≡ 0 → ⊥) → next ≡ at + length (binary_text (width - 1) (v / 2)) → put next ((48 + v % 2) ∷ []) (put at (binary_text (width - 1) (v / 2)) buffer) ≡ put at (binary_text width v) buffer
-put-bit at next zero v buffer n e = absurd (n refl)
-put-bit at next (suc k) v buffer n e =
-    let down : suc k - 1 ≡ k = omega arith in
-    put-put at next (binary_text (suc k - 1) (v / 2)) ((48 + v % 2) ∷ []) buffer e
-    ∙ ap (λ j. put at (binary_text j (v / 2) ++ ((48 + v % 2) ∷ [])) buffer) down
-
-pub puts_more : {at n m : ℕ} {a b old mid new : List ℕ} → Puts at a old mid n → Puts n b mid new m → Puts at (a ++ b) old new m
-puts_more {at} {n} {m} {a} {b} {old} p q =
-    record { value = simp length-append (omega (arith, p.value, q.value)); after = q.after ∙ ap (put n b) p.after ∙ put-put at n a b old p.value }
-
--- The same text in other words.
-pub puts_same : {at n : ℕ} {a b old new : List ℕ} → Puts at a old new n → a ≡ b → Puts at b old new n
-puts_same {at} {n} {old = old} {new = new} p e = subst (λ text. Puts at text old new n) e p
-
--- The first part of what is left was put: the rest, put behind it, still gives the whole.
-pub left_more : (left first rest : List ℕ) (next m total : ℕ) (out new whole : List ℕ) → left ≡ first ++ rest → Puts next first out new m
-    → next + length left ≡ total → put next left out ≡ whole → (m + length rest ≡ total) × (put m rest new ≡ whole)
-left_more left first rest next m total out new whole e s count same =
-    let size : length left ≡ length first + length rest = ap length e ∙ length-append first rest in
-    (omega (arith, s.value), ap (put m rest) s.after ∙ put-put next m first rest out s.value ∙ ap (λ t. put next t out) (sym e) ∙ same)
+pub binary_more : (width v : ℕ) → 0 < width → binary_text (width - 1) (v / 2) ++ ((48 + v % 2) ∷ []) ≡ binary_text width v
+binary_more zero v h = absurd (omega arith)
+binary_more (suc k) v h = let down : suc k - 1 ≡ k = omega arith in ap (λ j. binary_text j (v / 2) ++ ((48 + v % 2) ∷ [])) down
 
 -- Clauses of a set.
 
-number_or_not : (others held : Bool) (c : ℕ) (cs : List ℕ) → listed_numbers others (cond held (c ∷ cs) cs) ≡ clause_text others held c ++ listed_numbers (others || held) cs
-number_or_not true true c cs = refl
-number_or_not true false c cs = refl
-number_or_not false true c cs = refl
-number_or_not false false c cs = refl
-
-pub clauses_step : (others : Bool) (k n s : ℕ) → k < n → listed_numbers others (clauses_from (k + 1) (n - k) s)
-    ≡ clause_text others (eqb (s % 2) 1) (k + 1) ++ listed_numbers (others || eqb (s % 2) 1) (clauses_from (k + 1 + 1) (n - (k + 1)) (s / 2))
-clauses_step others k n s h =
+pub clause_held : (before : List ℕ) (k n s : ℕ) → k < n → s % 2 ≡ 1
+    → listed_numbers before (clauses_from (k + 1) (n - k) s) ≡ (before ++ decimal (k + 1)) ++ listed_numbers (codes ",") (clauses_from (k + 1 + 1) (n - (k + 1)) (s / 2))
+clause_held before k n s h odd =
     let down : n - k ≡ suc (n - (k + 1)) = omega arith in
-    ap (λ j. listed_numbers others (clauses_from (k + 1) j s)) down
-    ∙ number_or_not others (eqb (s % 2) 1) (k + 1) (clauses_from (k + 1 + 1) (n - (k + 1)) (s / 2))
+    ap (λ j. listed_numbers before (clauses_from (k + 1) j s)) down
+    ∙ rw (eq-eqb (s % 2) 1 odd) (sym (append_assoc before (decimal (k + 1)) (listed_numbers (codes ",") (clauses_from (k + 1 + 1) (n - (k + 1)) (s / 2)))))
 
-pub clauses_end : (others : Bool) (k n s : ℕ) → n ≤ k → listed_numbers others (clauses_from (k + 1) (n - k) s) ≡ []
-clauses_end others k n s h = let none : n - k ≡ 0 = omega arith in ap (λ j. listed_numbers others (clauses_from (k + 1) j s)) none
+pub clause_not_held : (before : List ℕ) (k n s : ℕ) → k < n → (s % 2 ≡ 1 → ⊥)
+    → listed_numbers before (clauses_from (k + 1) (n - k) s) ≡ listed_numbers before (clauses_from (k + 1 + 1) (n - (k + 1)) (s / 2))
+clause_not_held before k n s h even =
+    let down : n - k ≡ suc (n - (k + 1)) = omega arith in
+    ap (λ j. listed_numbers before (clauses_from (k + 1) j s)) down ∙ rw (ne_eqb (s % 2) 1 even)
+
+pub clauses_end : (before : List ℕ) (k n s : ℕ) → n ≤ k → listed_numbers before (clauses_from (k + 1) (n - k) s) ≡ []
+clauses_end before k n s h = let none : n - k ≡ 0 = omega arith in ap (λ j. listed_numbers before (clauses_from (k + 1) j s)) none
 
 -- Lines of entries.
 
@@ -109,6 +104,12 @@ entries_step f es k e h n =
     ∙ ap (λ x. entry_text f x ++ (10 ∷ entries_text f (drop (k + 1) es))) same
     ∙ sym (append_assoc (entry_text f e) (10 ∷ []) (entries_text f (drop (k + 1) es)))
 
+pub line_added : (f : Qbf) (es : List Entry) (k : ℕ) (e : Entry) → k < length es → Some e ≡ slice_get es k → length (entry_text f e) < max_line
+    → length (entries_text f (drop k es)) ≤ max_line + length (entries_text f (drop (k + 1) es))
+line_added f es k e h n short =
+    let whole = ap length (entries_step f es k e h n) ∙ length-append (entry_text f e ++ (10 ∷ [])) (entries_text f (drop (k + 1) es)) in
+    omega (arith, length_push (entry_text f e) 10)
+
 -- An entry is told at each place before the end.
 pub entries_told : {A : Type 0} (es : List Entry) (k : ℕ) → k < length es → slice_get es k ≡ None → A
 entries_told [] k h n = absurd (omega arith)
@@ -118,33 +119,38 @@ pub entries_end : (f : Qbf) (es : List Entry) (k : ℕ) → length es ≤ k → 
 entries_end f es k h = at_drop_all (entries_text f) es k h
 
 -- Three fields and byte 10, put one after another.
-pub fields_put : {at n1 n2 n3 n4 n5 n6 : ℕ} {a b c old o1 o2 o3 o4 o5 o6 : List ℕ} → Puts at a old o1 n1 → Puts n1 (32 ∷ []) o1 o2 n2 → Puts n2 b o2 o3 n3 → Puts n3 (32 ∷ []) o3 o4 n4
-    → Puts n4 c o4 o5 n5 → Puts n5 (10 ∷ []) o5 o6 n6 → Puts at (spaced a b c ++ (10 ∷ [])) old o6 n6
-fields_put {a = a} {b = b} {c = c} p q r s t u =
-    let all = puts_more (puts_more (puts_more (puts_more (puts_more p q) r) s) t) u in
+pub fields_wrote : {w0 w1 w2 w3 w4 w5 w6 : Writer} {a b c : List ℕ} → Wrote w0 w1 a → Wrote w1 w2 (32 ∷ []) → Wrote w2 w3 b → Wrote w3 w4 (32 ∷ []) → Wrote w4 w5 c → Wrote w5 w6 (10 ∷ [])
+    → Wrote w0 w6 (spaced a b c ++ (10 ∷ []))
+fields_wrote {a = a} {b = b} {c = c} p q r s t u =
+    let all = wrote_more (wrote_more (wrote_more (wrote_more (wrote_more p q) r) s) t) u in
     let same : ((((a ++ (32 ∷ [])) ++ b) ++ (32 ∷ [])) ++ c) ++ (10 ∷ []) ≡ spaced a b c ++ (10 ∷ []) = simp append_assoc in
-    puts_same all same
+    wrote_same all same
 
 -- The two headings, the claim between them and the lines of entries, put one after another.
-pub certificate_put : {n1 n2 n3 n4 : ℕ} {old o1 o2 o3 o4 : List ℕ} (f : Qbf) (v : Verdict) (es : List Entry) → Puts 0 (codes "verdict blocks clauses\n") old o1 n1 → Puts n1 (claim_text f v ++ (10 ∷ [])) o1 o2 n2
-    → Puts n2 (codes "level set reply\n") o2 o3 n3 → Puts n3 (entries_text f es) o3 o4 n4 → Puts 0 (certificate_text f v es) old o4 n4
-certificate_put f v es p q r s =
-    let all = puts_more (puts_more (puts_more p q) r) s in
+pub certificate_wrote : {w0 w1 w2 w3 w4 : Writer} (f : Qbf) (v : Verdict) (es : List Entry) → Wrote w0 w1 (codes "verdict blocks clauses\n") → Wrote w1 w2 (claim_text f v ++ (10 ∷ []))
+    → Wrote w2 w3 (codes "level set reply\n") → Wrote w3 w4 (entries_text f es) → Wrote w0 w4 (certificate_text f v es)
+certificate_wrote f v es p q r s =
+    let all = wrote_more (wrote_more (wrote_more p q) r) s in
     let same : ((codes "verdict blocks clauses\n" ++ (claim_text f v ++ (10 ∷ []))) ++ codes "level set reply\n") ++ entries_text f es ≡ certificate_text f v es = simp append_assoc in
-    puts_same all same
+    wrote_same all same
 
--- A buffer that is shorter than the text, and one that has room.
-module _ (text buffer : List ℕ) (n : ℕ) (count : n ≡ 0 + length text) where
-  pub short_refused : length buffer < n → Err (fault (BufferShort n) 0) ≡ writing text buffer
-  short_refused h =
-      let size : n ≡ length text = count ∙ zero-add (length text) in
-      rw (lt-leb (length text) (length buffer) (omega arith)) (ap (λ k. Err (fault (BufferShort k) 0)) size)
+-- A writer of a whole text that began at the front of a buffer, whether the text has room or not.
+module _ (text : List ℕ) (low : length text < 2 ^ 64) {o n : Writer} (wrote : Wrote o n text) (front : o.count ≡ 0) where
+  pub wrote_count : n.count ≡ length text
+  wrote_count =
+      ap (λ s. s.0) wrote.after ∙ ap (λ k. (put text (k, o.out.now)).0) front ∙ put_count 0 text o.out.now (omega arith) ∙ zero-add (length text)
+
+  pub wrote_whole : (buffer : List ℕ) → o.out.now ≡ buffer → length text ≤ length buffer → n.out.now ≡ written text buffer
+  wrote_whole buffer same room =
+      ap (λ s. s.1) wrote.after ∙ ap (λ k. (put text (k, o.out.now)).1) front ∙ ap (λ b. (put text (0, b)).1) same
+      ∙ rw (le-leb (length text) (length buffer) room) (put_within 0 text buffer (omega arith) (omega arith) ∙ ap (λ k. text ++ drop k buffer) (zero-add (length text)))
+
+module _ (text buffer : List ℕ) (n : ℕ) (count : n ≡ length text) where
+  pub short_refused : (r : Fault) → r ≡ fault (BufferShort n) 0 → length buffer < n → Err r ≡ writing text buffer
+  short_refused r e h = rw (e, count, lt-leb (length text) (length buffer) (omega arith))
 
   pub short_untouched : length buffer < n → buffer ≡ written text buffer
   short_untouched h = rw (lt-leb (length text) (length buffer) (omega arith))
 
   pub long_answered : n ≤ length buffer → Ok n ≡ writing text buffer
-  long_answered h = rw (le-leb (length text) (length buffer) (omega arith)) (ap Ok (count ∙ zero-add (length text)))
-
-  pub long_written : (new : List ℕ) → new ≡ put 0 text buffer → n ≤ length buffer → new ≡ written text buffer
-  long_written new e h = rw (le-leb (length text) (length buffer) (omega arith)) (e ∙ put_front text buffer (omega arith))
+  long_answered h = rw (count, le-leb (length text) (length buffer) (omega arith))

@@ -15,7 +15,7 @@ use Rattle.truth.specs.declared.verdict.Verdict.TheVariants.{True, False}
 use Rattle.truth.specs.Places.{numbered}
 use Rattle.truth.specs.Sides.{owes}
 use Rattle.truth.specs.Syntax.{Block, Qbf}
-use Rattle.truth.specs.Verdicts.{is_true}
+use Rattle.truth.specs.Verdicts.{is_true, verdict_word}
 use Rattle.truth.specs.WellFormed.{WellFormed, all, wide}
 use Rattle.formula_text.specs.Form.{Pairwise}
 use Rattle.entries.specs.declared.entry.Entry.{Entry}
@@ -24,7 +24,7 @@ use Rattle.entries.specs.declared.entry.Reply.TheVariants.{None as NoReply, Valu
 use Rattle.entries.specs.Fitting.{replies, fits}
 use Rattle.certificate_text.specs.ReplyField.{reply_formed, reply_of}
 use Rattle.certificate_text.specs.Parse.{take_words, heading_line, entry_words, verdict_line, verdict_of, read_entry, entry_lines, from, parse_lines, parse_certificate}
-use Rattle.certificate_text.specs.CertificateText.{set_text, reply_text, width_at, spaced, entry_text, verdict_word, claim_text, join_lines, certificate_lines, certificate_text}
+use Rattle.certificate_text.specs.CertificateText.{set_text, reply_text, width_at, spaced, entry_text, claim_text, join_lines, certificate_lines, certificate_text}
 use Rattle.certificate_text.specs.Form.{ThreeFields, ClaimLine, EntryLine, CertificateForm}
 use Rattle.certificate_text.specs.RoundTrip.{ReadsBack}
 use Rattle.certificate_text.proofs.FieldTexts.{Solid, solid_field, decimal_solid, set_taken, set_field_lem, value_field, value_formed, value_read}

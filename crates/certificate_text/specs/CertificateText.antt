@@ -1,11 +1,11 @@
 -- The text of a certificate: single spaces, and byte 10 after each line.
-use Rattle.std.specs.Prelude.{ℕ, zero, suc, ◌+◌, ◌/◌, ◌%◌, Bool, true, false, cond, List, [], ◌∷◌, ◌++◌, map, length, drop, Some, None, Ok, Err, codes, decimal, Result, ◌==◌, nat_le}
+use Rattle.std.specs.Prelude.{ℕ, zero, suc, ◌+◌, ◌/◌, ◌%◌, List, [], ◌∷◌, ◌++◌, map, length, drop, Some, None, Ok, Err, codes, decimal, Result, ◌==◌, nat_le, if◌then◌else◌}
 use Rattle.faults.specs.declared.cause.Cause.TheVariants.{BufferShort}
 use Rattle.faults.specs.declared.fault.Fault.{Fault}
 use Rattle.truth.specs.declared.verdict.Verdict.{Verdict}
-use Rattle.truth.specs.declared.verdict.Verdict.TheVariants.{True, False}
 use Rattle.truth.specs.Places.{numbered}
 use Rattle.truth.specs.Syntax.{Qbf}
+use Rattle.truth.specs.Verdicts.{verdict_word}
 use Rattle.formula_text.specs.Parse.{fault}
 use Rattle.entries.specs.declared.entry.Entry.{Entry}
 use Rattle.entries.specs.declared.entry.Reply.{Reply}
@@ -14,24 +14,16 @@ use Rattle.entries.specs.declared.entry.Reply.TheVariants.{None as NoReply, Valu
 -- The clauses of a set among n that are numbered from c on, ascending.
 abbrev pub clauses_from : ℕ → ℕ → ℕ → List ℕ
 clauses_from c zero s = []
-clauses_from c (suc n) s = cond (s % 2 == 1) (c ∷ clauses_from (c + 1) n (s / 2)) (clauses_from (c + 1) n (s / 2))
+clauses_from c (suc n) s = if s % 2 == 1 then c ∷ clauses_from (c + 1) n (s / 2) else clauses_from (c + 1) n (s / 2)
 
--- A number, after a comma (byte 44) where others stand before it.
-abbrev pub listed_number : Bool → ℕ → List ℕ
-listed_number others c = cond others (44 ∷ decimal c) (decimal c)
-
--- Numbers joined by commas, after others or not.
-abbrev pub listed_numbers : Bool → List ℕ → List ℕ
-listed_numbers others [] = []
-listed_numbers others (c ∷ cs) = listed_number others c ++ listed_numbers true cs
-
--- A clause number where it is held.
-abbrev pub clause_text : Bool → Bool → ℕ → List ℕ
-clause_text others held c = cond held (listed_number others c) []
+-- Numbers joined by commas, with a text before the first.
+abbrev pub listed_numbers : List ℕ → List ℕ → List ℕ
+listed_numbers before [] = []
+listed_numbers before (c ∷ cs) = before ++ (decimal c ++ listed_numbers (codes ",") cs)
 
 -- The clauses of a set among the first n, joined by commas, or `-` for the empty set.
 abbrev pub set_text : ℕ → ℕ → List ℕ
-set_text n s = cond (s == 0) (codes "-") (listed_numbers false (clauses_from 1 n s))
+set_text n s = if s == 0 then codes "-" else listed_numbers [] (clauses_from 1 n s)
 
 -- A number by binary digits, as many as the width, the first the highest.
 abbrev pub binary_text : ℕ → ℕ → List ℕ
@@ -52,10 +44,6 @@ spaced a b c = a ++ (32 ∷ (b ++ (32 ∷ c)))
 
 abbrev pub entry_text : Qbf → Entry → List ℕ
 entry_text f e = spaced (decimal e.level) (set_text (length f.matrix) e.set) (reply_text (width_at f e.level) e.reply)
-
-abbrev pub verdict_word : Verdict → List ℕ
-verdict_word True = codes "true"
-verdict_word False = codes "false"
 
 -- The verdict, and the counts of blocks and clauses.
 abbrev pub claim_text : Qbf → Verdict → List ℕ
@@ -78,8 +66,8 @@ certificate_text f v es = join_lines (certificate_lines f v es)
 
 -- What writing a text into a buffer answers: its length, or a refusal with the length needed where the buffer is shorter.
 abbrev pub writing : List ℕ → List ℕ → Result ℕ Fault
-writing text buffer = cond (nat_le (length text) (length buffer)) (Ok (length text)) (Err (fault (BufferShort (length text)) 0))
+writing text buffer = if nat_le (length text) (length buffer) then Ok (length text) else Err (fault (BufferShort (length text)) 0)
 
 -- What the buffer then holds: the text, and what stood behind; or all that it held, where it is shorter.
 abbrev pub written : List ℕ → List ℕ → List ℕ
-written text buffer = cond (nat_le (length text) (length buffer)) (text ++ drop (length text) buffer) buffer
+written text buffer = if nat_le (length text) (length buffer) then text ++ drop (length text) buffer else buffer

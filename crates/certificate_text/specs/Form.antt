@@ -4,13 +4,13 @@ use Rattle.faults.specs.declared.fault.Fault.{Fault}
 use Rattle.text.specs.Layout.{Lines, Spaced}
 use Rattle.truth.specs.declared.verdict.Verdict.{Verdict}
 use Rattle.truth.specs.Syntax.{Qbf}
-use Rattle.truth.specs.Verdicts.{is_true}
+use Rattle.truth.specs.Verdicts.{is_true, verdict_word}
 use Rattle.truth.specs.WellFormed.{all}
 use Rattle.formula_text.specs.Form.{Pairwise}
 use Rattle.entries.specs.declared.entry.Entry.{Entry}
 use Rattle.entries.specs.Fitting.{fits}
 use Rattle.certificate_text.specs.declared.read.Certificate.{Certificate}
-use Rattle.certificate_text.specs.CertificateText.{set_text, reply_text, width_at, verdict_word}
+use Rattle.certificate_text.specs.CertificateText.{set_text, reply_text, width_at}
 
 -- Three fields, with one or more spaces between each two.
 abbrev pub ThreeFields : List ℕ → List ℕ → List ℕ → List ℕ → Type 0

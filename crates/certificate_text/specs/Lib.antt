@@ -5,6 +5,6 @@ pub mod Gathering
 pub mod Parse
 pub mod Listing
 pub mod CertificateText
-pub mod Placing
+pub mod Writing
 pub mod Form
 pub mod RoundTrip

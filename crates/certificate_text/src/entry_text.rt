@@ -1,93 +1,65 @@
-ghost use Rattle.std.specs.Prelude.{◌≡◌, ◌+◌, ◌*◌, ◌^◌, ◌<◌, ◌≤◌, false, [], ◌∷◌, ◌++◌};
-ghost use Rattle.truth.specs.Limits.{max_clauses, max_width};
+ghost use Rattle.std.specs.Prelude.{◌<◌, [], ◌∷◌, ◌++◌, length, ◌≤◌};
+ghost use Rattle.truth.specs.Limits.{max_clauses};
 ghost use Rattle.qbf.specs.Held.{qbf_of};
-ghost use Rattle.certificate_text.specs.CertificateText.{clauses_from, clause_text, listed_numbers, set_text, reply_text, width_at, entry_text};
-ghost use Rattle.certificate_text.specs.Placing.{Puts};
+ghost use Rattle.certificate_text.specs.CertificateText.{clauses_from, listed_numbers, set_text, reply_text, entry_text};
+ghost use Rattle.certificate_text.specs.Writing.{Wrote, max_line};
 
-use crate::puts::{put_binary, put_byte, put_number};
+use crate::writer::Writer;
 use entries::entry::{Entry, Reply};
 use qbf::formula::Formula;
 
-// Puts a clause number where it is held, after a comma where others stand before it.
-fn put_clause(out: &mut [u8], at: usize, others: bool, held: bool, clause: u32) -> usize
-    requires { at < 2 ^ 61 }
-    ensures puts { Puts at (clause_text others held clause) out.old out.new result }
-    ensures most { result ≤ at + 11 }
-{
-    if !held {
-        return at;
+impl Writer<'_> {
+    // Puts the clauses of a set among the first ones, joined by commas.
+    fn clauses(&mut self, clauses: usize, set: u128)
+        requires { clauses ≤ max_clauses }
+        ensures { Wrote self.old self.new (listed_numbers [] (clauses_from 1 clauses set)) }
+    {
+        let mut before: &[u8] = b"";
+        let mut rest = set;
+        // Over the clauses, and not over those of the set: what is left of the set is halved with each.
+        for k in 0..clauses {
+            if rest % 2 == 1 {
+                self.bytes(before);
+                self.number(k as u32 + 1);
+                before = b",";
+            }
+            rest /= 2;
+        }
     }
-    if !others {
-        return put_number(out, at, clause);
-    }
-    let next = put_byte(out, at, b',');
-    put_number(out, next, clause)
-}
 
-// Puts the clauses of a set among the first ones, joined by commas.
-fn put_clauses(out: &mut [u8], at: usize, clauses: usize, set: u128) -> usize
-    requires { (at < 2 ^ 60) × (clauses ≤ max_clauses) }
-    ensures puts { Puts at (listed_numbers false (clauses_from 1 clauses set)) out.old out.new result }
-    ensures most { result ≤ at + 11 * max_clauses }
-{
-    let mut next = at;
-    let mut others = false;
-    let mut rest = set;
-    for k in 0..clauses {
-        let held = rest % 2 == 1;
-        next = put_clause(out, next, others, held, k as u32 + 1);
-        others = others | held;
-        rest /= 2;
+    // Puts a set.
+    fn set(&mut self, clauses: usize, set: u128)
+        requires { clauses ≤ max_clauses }
+        ensures { Wrote self.old self.new (set_text clauses set) }
+    {
+        if set == 0 {
+            self.byte(b'-');
+        } else {
+            self.clauses(clauses, set);
+        }
     }
-    next
-}
 
-// Puts a set.
-fn put_set(out: &mut [u8], at: usize, clauses: usize, set: u128) -> usize
-    requires { (at < 2 ^ 60) × (clauses ≤ max_clauses) }
-    ensures puts { Puts at (set_text clauses set) out.old out.new result }
-    ensures most { result ≤ at + 11 * max_clauses }
-{
-    if set == 0 {
-        return put_byte(out, at, b'-');
+    // Puts a reply for a block of this width.
+    fn reply(&mut self, width: usize, reply: Reply)
+        ensures { Wrote self.old self.new (reply_text width reply) }
+    {
+        match reply {
+            Reply::None => self.byte(b'-'),
+            Reply::Value(value) => self.binary(width, value),
+        }
     }
-    put_clauses(out, at, clauses, set)
-}
 
-// Puts a reply for a block of this width.
-fn put_reply(out: &mut [u8], at: usize, width: usize, reply: Reply) -> usize
-    requires { (at < 2 ^ 61) × (width ≤ max_width) }
-    ensures puts { Puts at (reply_text width reply) out.old out.new result }
-    ensures most { result ≤ at + 12 }
-{
-    match reply {
-        Reply::None => put_byte(out, at, b'-'),
-        Reply::Value(value) => put_binary(out, at, width, value),
+    // Puts an entry's line.
+    pub(crate) fn entry(&mut self, formula: &Formula, entry: Entry)
+        ensures wrote { Wrote self.old self.new (entry_text (qbf_of formula.now) entry ++ (10 ∷ [])) }
+        ensures short { length (entry_text (qbf_of formula.now) entry) < max_line }
+    {
+        let width = formula.width(entry.level as usize).unwrap_or(0);
+        self.number(entry.level as u32);
+        self.byte(b' ');
+        self.set(formula.clauses(), entry.set);
+        self.byte(b' ');
+        self.reply(width, entry.reply);
+        self.byte(b'\n');
     }
-}
-
-// How many variables the block at a level has; none where there is no such level.
-fn width_at(formula: &Formula, level: u8) -> usize
-    ensures value { result ≡ width_at (qbf_of formula.now) level }
-    ensures most { result ≤ max_width }
-{
-    match formula.width(level as usize) {
-        Some(width) => width,
-        None => 0,
-    }
-}
-
-// Puts an entry's line.
-pub(crate) fn put_entry(out: &mut [u8], at: usize, formula: &Formula, entry: Entry) -> usize
-    requires { at < 2 ^ 59 }
-    ensures puts { Puts at (entry_text (qbf_of formula.now) entry ++ (10 ∷ [])) out.old out.new result }
-    ensures most { result ≤ at + 2000 }
-{
-    let space = put_number(out, at, entry.level as u32);
-    let set = put_byte(out, space, b' ');
-    let gap = put_set(out, set, formula.clauses(), entry.set);
-    let reply = put_byte(out, gap, b' ');
-    let width = width_at(formula, entry.level);
-    let end = put_reply(out, reply, width, entry.reply);
-    put_byte(out, end, b'\n')
 }

@@ -1,4 +1,4 @@
-ghost use Rattle.std.specs.Prelude.{◌≡◌, ◌<◌, ◌≤◌, List, length, MatchOption};
+ghost use Rattle.std.specs.Prelude.{◌≡◌, ◌<◌, ◌≤◌, ⊤, List, length, MatchOption};
 ghost use Rattle.std.specs.List.{slice_get as element_at};
 ghost use Rattle.entries.specs.declared.entry.Entry.{Entry};
 ghost use Rattle.certificate_text.specs.Listing.{max_listed};
@@ -13,8 +13,8 @@ pub trait Listing {
     // The entries, in order.
     ghost listed: { Self → List Entry };
 
-    // A state in which they can be told: whoever makes the value gives it.
-    ghost ready: { Self → Type 0 };
+    // A state in which they can be told: whoever makes the value gives it. Any state, where nothing else is said.
+    ghost ready: { Self → Type 0 } = { λ _. ⊤ };
 
     // How many entries there are.
     fn count(&self) -> usize
@@ -28,10 +28,11 @@ pub trait Listing {
         ensures { result ≡ element_at (listed self.now) k };
 }
 
-// The entries of a slice.
+// The entries of a slice, no more than can be listed.
 #[derive(Clone, Copy, Drop)]
 pub struct EntrySlice<'a> {
     entries: &'a [Entry],
+    ghost few: { length entries.now ≤ max_listed },
 }
 
 impl<'a> EntrySlice<'a> {
@@ -49,16 +50,11 @@ impl<'a> EntrySlice<'a> {
 impl<'a> Listing for EntrySlice<'a> {
     ghost listed = { λ s. s.entries.now };
 
-    ghost ready = { λ s. length s.entries.now ≤ max_listed };
-
     fn count(&self) -> usize {
         self.entries.len()
     }
 
     fn nth(&self, k: usize) -> Option<Entry> {
-        if k >= self.entries.len() {
-            return None;
-        }
-        Some(self.entries[k])
+        self.entries.get(k).copied()
     }
 }

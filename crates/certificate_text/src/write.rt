@@ -1,72 +1,54 @@
-ghost use Rattle.std.specs.Prelude.{◌≡◌, ◌+◌, ◌^◌, ◌<◌, ◌≤◌, [], ◌∷◌, ◌++◌};
+ghost use Rattle.std.specs.Prelude.{◌≡◌, ◌*◌, ◌^◌, ◌<◌, ◌≤◌, [], ◌∷◌, ◌++◌, length};
 ghost use Rattle.qbf.specs.Held.{qbf_of};
-ghost use Rattle.certificate_text.specs.CertificateText.{verdict_word, claim_text, entries_text, certificate_text, writing, written};
-ghost use Rattle.certificate_text.specs.Placing.{Puts};
+ghost use Rattle.certificate_text.specs.Listing.{max_listed};
+ghost use Rattle.certificate_text.specs.CertificateText.{claim_text, entries_text, certificate_text, writing, written};
+ghost use Rattle.certificate_text.specs.Writing.{Wrote, max_line};
 ghost use Rattle.certificate_text.specs.RoundTrip.{ReadsBack};
 
-use crate::entry_text::put_entry;
 use crate::listing::Listing;
-use crate::puts::{put_byte, put_bytes, put_number};
+use crate::writer::Writer;
 use faults::cause::Cause;
 use faults::fault::Fault;
 use qbf::formula::Formula;
 use truth::verdict::Verdict;
 
-// Puts the word for a verdict.
-fn put_verdict(out: &mut [u8], at: usize, verdict: Verdict) -> usize
-    requires { at < 2 ^ 61 }
-    ensures puts { Puts at (verdict_word verdict) out.old out.new result }
-    ensures most { result ≤ at + 5 }
-{
-    match verdict {
-        Verdict::True => put_bytes(out, at, b"true"),
-        Verdict::False => put_bytes(out, at, b"false"),
+impl Writer<'_> {
+    // Puts the line of the verdict and the counts.
+    fn claim(&mut self, formula: &Formula, verdict: Verdict)
+        ensures { Wrote self.old self.new (claim_text (qbf_of formula.now) verdict ++ (10 ∷ [])) }
+    {
+        self.bytes(verdict.word().as_bytes());
+        self.byte(b' ');
+        self.number(formula.blocks() as u32);
+        self.byte(b' ');
+        self.number(formula.clauses() as u32);
+        self.byte(b'\n');
     }
-}
 
-// Puts the line of the verdict and the counts.
-fn put_claim(out: &mut [u8], at: usize, formula: &Formula, verdict: Verdict) -> usize
-    requires { at < 2 ^ 60 }
-    ensures puts { Puts at (claim_text (qbf_of formula.now) verdict ++ (10 ∷ [])) out.old out.new result }
-    ensures most { result ≤ at + 100 }
-{
-    let space = put_verdict(out, at, verdict);
-    let blocks = put_byte(out, space, b' ');
-    let gap = put_number(out, blocks, formula.blocks() as u32);
-    let clauses = put_byte(out, gap, b' ');
-    let end = put_number(out, clauses, formula.clauses() as u32);
-    put_byte(out, end, b'\n')
-}
-
-// Puts the lines of all entries.
-fn put_entries<L: Listing>(out: &mut [u8], at: usize, formula: &Formula, entries: &L) -> usize
-    requires { (at < 2 ^ 58) × (L.Listing.ready entries.now) }
-    ensures { Puts at (entries_text (qbf_of formula.now) (L.Listing.listed entries.now)) out.old out.new result }
-{
-    let mut next = at;
-    for k in 0..entries.count() {
-        let Some(entry) = entries.nth(k) else {
-            return next;
-        };
-        next = put_entry(out, next, formula, entry);
+    // Puts the lines of all entries.
+    fn entries<L: Listing>(&mut self, formula: &Formula, entries: &L)
+        requires { L.Listing.ready entries.now }
+        ensures wrote { Wrote self.old self.new (entries_text (qbf_of formula.now) (L.Listing.listed entries.now)) }
+        ensures short { length (entries_text (qbf_of formula.now) (L.Listing.listed entries.now)) ≤ max_line * max_listed }
+    {
+        for k in 0..entries.count() {
+            if let Some(entry) = entries.nth(k) {
+                self.entry(formula, entry);
+            }
+        }
     }
-    next
-}
 
-// Puts a whole certificate at the front of a buffer, and answers its length.
-fn put_certificate<L: Listing>(
-    out: &mut [u8],
-    formula: &Formula,
-    verdict: Verdict,
-    entries: &L,
-) -> usize
-    requires { L.Listing.ready entries.now }
-    ensures { Puts 0 (certificate_text (qbf_of formula.now) verdict (L.Listing.listed entries.now)) out.old out.new result }
-{
-    let claim = put_bytes(out, 0, b"verdict blocks clauses\n");
-    let heading = put_claim(out, claim, formula, verdict);
-    let first = put_bytes(out, heading, b"level set reply\n");
-    put_entries(out, first, formula, entries)
+    // Puts a whole certificate.
+    fn certificate<L: Listing>(&mut self, formula: &Formula, verdict: Verdict, entries: &L)
+        requires { L.Listing.ready entries.now }
+        ensures wrote { Wrote self.old self.new (certificate_text (qbf_of formula.now) verdict (L.Listing.listed entries.now)) }
+        ensures short { length (certificate_text (qbf_of formula.now) verdict (L.Listing.listed entries.now)) < 2 ^ 64 }
+    {
+        self.bytes(b"verdict blocks clauses\n");
+        self.claim(formula, verdict);
+        self.bytes(b"level set reply\n");
+        self.entries(formula, entries);
+    }
 }
 
 // Writes the certificate of a verdict and entries into a buffer, and tells its length. A buffer that is shorter than the
@@ -83,9 +65,12 @@ pub fn write<L: Listing>(
     ensures buffer { out.new ≡ written (certificate_text (qbf_of formula.now) verdict (L.Listing.listed entries.now)) out.old }
     ensures back { ReadsBack }
 {
-    let needed = put_certificate(&mut [], formula, verdict, entries);
+    let mut counted = Writer::new(&mut []);
+    counted.certificate(formula, verdict, entries);
+    let needed = counted.count;
     if needed > out.len() {
-        return Err(Fault::new(Cause::BufferShort { needed }, 0));
+        return Err(Fault::from(Cause::BufferShort { needed }));
     }
-    Ok(put_certificate(out, formula, verdict, entries))
+    Writer::new(out).certificate(formula, verdict, entries);
+    Ok(needed)
 }
