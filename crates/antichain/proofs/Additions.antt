@@ -23,6 +23,11 @@ module _ {E : Type 0} (c : E → E → Bool) where
   pub apart_added : (b : E → E → Bool) (e : E) (xs : List E) → Apart c xs → covered c xs e ≡ false → Apart c (placed b e (uncovered c e xs))
   apart_added b e xs a h = apart_placed c b e (uncovered c e xs) (apart_kept c (λ x. not (c e x)) xs a) (apart_left e xs h)
 
+  -- where no place is left though none leaves, all stays
+  pub full : (b : E → E → Bool) (capacity : ℕ) (xs : List E) (e : E) → covered c xs e ≡ false → length xs ≤ capacity → capacity ≤ length (uncovered c e xs) → uncovered c e xs ≡ held_after c b capacity xs e
+  full b capacity xs e new h k =
+      let m : ltb (length (uncovered c e xs)) capacity ≡ false = le-ltb _ _ k in kept_same (λ x. not (c e x)) xs (omega arith) ∙ simp (new, m)
+
   pub apart_after : (b : E → E → Bool) (capacity : ℕ) (e : E) (xs : List E) → Apart c xs → Apart c (held_after c b capacity xs e)
   apart_after b capacity e xs a =
       cond_both (covered c xs e) _ _ (Apart c) (λ _. a)

@@ -7,14 +7,13 @@ use Rattle.std.proofs.lemmas.List.Edits.{take-paste}
 use Rattle.std.proofs.lemmas.Slice.{between_is}
 use Rattle.std.proofs.lemmas.Bool.{cases_Bool, not_from_false, not-false, cases_lt, cases_order, eq-eqb, ne_eqb, eqb-false, leb-true, leb-false, le-leb, lt-leb, lt-ltb, le-ltb, ltb-true}
 use Rattle.antichain.specs.Limits.{max_level}
-use Rattle.antichain.specs.declared.store.AddAnswer.TheVariants.{Added, Full}
 use Rattle.antichain.specs.Entries.{Rules}
-use Rattle.antichain.specs.Lookups.{covered, Told}
-use Rattle.antichain.specs.Adding.{uncovered, above, placed, answer_to, held_after}
+use Rattle.antichain.specs.Lookups.{Told}
+use Rattle.antichain.specs.Adding.{uncovered, above, placed}
 use Rattle.antichain.specs.Antichain.{ApartFrom}
 use Rattle.antichain.specs.Layouts.{upto, Ordered, Laid}
 use Rattle.antichain.proofs.Canonical.{before_levels}
-use Rattle.antichain.proofs.Kept.{length-kept, kept_same, kept_sure, kept_both, kept_alike, count_out, count_in}
+use Rattle.antichain.proofs.Kept.{length-kept, kept_sure, kept_both, kept_alike, count_out, count_in}
 use Rattle.antichain.proofs.Sorting.{ordered_kept, ordered_placed, count_placed}
 use Rattle.antichain.proofs.Covering.{told_kept, apart_kept, apart_placed}
 
@@ -150,15 +149,6 @@ module _ {E : Type 0} {v s : E → ℕ} {c b : E → E → Bool} (w : Rules v s 
 
       pub gone_within : (k : ℕ) → l ≤ k → k ≤ max_level → (get_or starts max_level 0 - length (uncovered c e xs) ≤ get_or starts k 0) × (get_or starts k 0 ≤ get_or starts max_level 0)
       gone_within k m n = (omega (arith, count_left k m, h.counts k n, whole), ascend k max_level n (omega arith))
-
-      -- what add answers and leaves, where there is no room and where there is
-      pub full : covered c xs e ≡ false → cap ≤ length (uncovered c e xs) → (uncovered c e xs ≡ xs) × (Full ≡ answer_to c cap xs e) × (xs ≡ held_after c b cap xs e)
-      full new k =
-          let m : ltb (length (uncovered c e xs)) cap ≡ false = le-ltb _ _ k in
-          (kept_same (λ x. not (c e x)) xs (omega (arith, whole, h.fits)), simp (new, m), simp (new, m))
-
-      pub room : covered c xs e ≡ false → length (uncovered c e xs) < cap → (Added ≡ answer_to c cap xs e) × (placed b e (uncovered c e xs) ≡ held_after c b cap xs e)
-      room new k = let m : ltb (length (uncovered c e xs)) cap ≡ true = lt-ltb _ _ k in (simp (new, m), simp (new, m))
 
       -- the starts, once those that e covers are gone
       pub laid_kept : (new : List ℕ)

@@ -6,7 +6,9 @@ pub mod Ranks
 pub mod Covering
 pub mod Additions
 pub mod Compacting
+pub mod Arriving
 pub mod Placing
 pub mod Starts
 pub mod Grouping
+pub mod Leaving
 pub mod Rounds

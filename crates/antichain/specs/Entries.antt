@@ -1,14 +1,14 @@
 -- What a kind of entry has to keep.
-use Rattle.std.specs.Prelude.{◌≡◌, ℕ, ◌≤◌, Bool, true, false, cond, ◌==◌, nat_lt}
+use Rattle.std.specs.Prelude.{◌≡◌, ℕ, ◌≤◌, Bool, true, false, if◌then◌else◌, ◌==◌, nat_lt}
 use Rattle.antichain.specs.Limits.{max_level}
 
 -- The canonical order, of a level and set number against another: by level, then by set number.
 abbrev pub comes_before : ℕ → ℕ → ℕ → ℕ → Bool
-comes_before l s m t = cond (nat_lt l m) true (cond (l == m) (nat_lt s t) false)
+comes_before l s m t = if nat_lt l m then true else (if l == m then nat_lt s t else false)
 
 -- Covering by a test of the two set numbers, within a level.
 abbrev pub covers_by : (ℕ → ℕ → Bool) → ℕ → ℕ → ℕ → ℕ → Bool
-covers_by test l s m t = cond (l == m) (test s t) false
+covers_by test l s m t = if l == m then test s t else false
 
 -- The laws of entries. What else an entry carries plays no part in them.
 pub record Rules {E : Type 0} (level set : E → ℕ) (covers before : E → E → Bool) : Type 0 where

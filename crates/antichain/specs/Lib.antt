@@ -5,4 +5,5 @@ pub mod Lookups
 pub mod Adding
 pub mod Antichain
 pub mod Layouts
+pub mod Holding
 pub mod Runs

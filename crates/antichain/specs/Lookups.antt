@@ -1,10 +1,10 @@
 -- What a look-up among entries tells.
-use Rattle.std.specs.Prelude.{◌≡◌, Bool, true, false, cond, List, [], ◌∷◌, Some, None, Option}
+use Rattle.std.specs.Prelude.{◌≡◌, Bool, true, false, if◌then◌else◌, List, [], ◌∷◌, Some, None, Option}
 
 -- Some entry of the list covers e.
 abbrev pub covered : {E : Type 0} → (E → E → Bool) → List E → E → Bool
 covered covers [] e = false
-covered covers (x ∷ xs) e = cond (covers x e) true (covered covers xs e)
+covered covers (x ∷ xs) e = if covers x e then true else covered covers xs e
 
 pub data Mem {E : Type 0} (x : E) : List E → Type 0 where
   here : {xs : List E} → Mem x (x ∷ xs)

@@ -1,11 +1,14 @@
-ghost use Rattle.std.specs.Prelude.{◌≡◌, ◌≤◌, List, [], length, filter, slice_get};
-ghost use Rattle.antichain.specs.Limits.{capacity_of};
+ghost use Rattle.std.specs.Prelude.{◌≡◌, ◌≤◌, min, List, [], length, filter, slice_get};
+ghost use Rattle.std.proofs.Common.{arith};
+ghost use Rattle.antichain.specs.Limits.{max_entries};
 ghost use Rattle.antichain.specs.Antichain.{Apart};
 ghost use Rattle.antichain.specs.Layouts.{sorted, arrived, Arrived};
+ghost use Rattle.antichain.specs.Holding.{Holding};
 
 use crate::entry::Entry;
 use crate::store::{AddAnswer, ListedStore, Store};
 use crate::table::{capacity_of, find_cover, retain};
+use std::marker::Model;
 
 // A store over a lent table: its entries are the first `len`, in the order of their arrival.
 #[derive(Drop)]
@@ -14,23 +17,31 @@ pub struct Arrivals<'a, E: Entry> {
     len: usize,
 }
 
+// Callers see what the store means. What its layout keeps is so of every store, and no call asks for it.
+impl<'a, E: Entry> Model for Arrivals<'a, E> {
+    ghost Value = { Holding E };
+
+    ghost view = { λ s. record { places = length s.table.now; entries = arrived E.Entry.before s.len s.table.now } };
+
+    ghost invariant = { λ s. Arrived E.Entry.covers E.Entry.before s.len s.table.now };
+}
+
 impl<'a, E: Entry> Arrivals<'a, E> {
     // An empty store over the table.
     pub fn new(table: &'a mut [E]) -> Arrivals<'a, E>
-        ensures sound { Arrived E.Entry.covers E.Entry.before result.len result.table.now }
-        ensures held { arrived E.Entry.before result.len result.table.now ≡ [] }
-        ensures capacity { capacity_of result.table.now ≡ capacity_of table.old }
+        ensures places { result.places ≡ length table.old }
+        ensures held { result.entries ≡ [] }
     {
         Arrivals { table, len: 0 }
     }
 }
 
 impl<'a, E: Entry> Store<E> for Arrivals<'a, E> {
-    ghost capacity = { λ s. capacity_of s.table.now };
+    ghost capacity = { λ s. min s.places max_entries };
 
-    ghost held = { λ s. arrived E.Entry.before s.len s.table.now };
+    ghost held = { λ s. s.entries };
 
-    ghost sound = { λ s. Arrived E.Entry.covers E.Entry.before s.len s.table.now };
+    ghost bounded = { λ s. Prim.omega arith };
 
     fn empty(&mut self) {
         self.len = 0;

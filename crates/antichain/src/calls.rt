@@ -49,10 +49,8 @@ impl<E> Round<E> {
     }
 }
 
-// Makes one call, on a store that is sound as its own calls ask.
+// Makes one call.
 pub fn apply<E: Entry, S: ListedStore<E>>(store: &mut S, call: &Call<E>) -> Answer<E>
-    requires { S.Store.sound store.old }
-    ensures sound { S.Store.sound store.new }
     ensures answer { result ≡ answered E.Entry (S.Store.capacity store.old) (S.Store.held store.old) call.now }
     ensures held { S.Store.held store.new ≡ leaves E.Entry (S.Store.capacity store.old) (S.Store.held store.old) call.now }
     ensures capacity { S.Store.capacity store.new ≡ S.Store.capacity store.old }
@@ -79,8 +77,6 @@ fn play<E: Entry, P: ListedStore<E>, Q: ListedStore<E>>(
     q: &mut Q,
     rounds: &mut [Round<E>],
 )
-    requires { P.Store.sound p.old × Q.Store.sound q.old }
-    ensures sound { P.Store.sound p.new × Q.Store.sound q.new }
     ensures rounds { rounds.new ≡ played E.Entry (P.Store.capacity p.old) (Q.Store.capacity q.old) (P.Store.held p.old) (Q.Store.held q.old) rounds.old }
     ensures first { P.Store.held p.new ≡ ran E.Entry (P.Store.capacity p.old) (P.Store.held p.old) rounds.old }
     ensures second { Q.Store.held q.new ≡ ran E.Entry (Q.Store.capacity q.old) (Q.Store.held q.old) rounds.old }
@@ -100,7 +96,6 @@ pub fn run_both<E: Entry, P: ListedStore<E>, Q: ListedStore<E>>(
     q: &mut Q,
     rounds: &mut [Round<E>],
 )
-    ensures sound { P.Store.sound p.new × Q.Store.sound q.new }
     ensures rounds { rounds.new ≡ played E.Entry (P.Store.capacity p.old) (Q.Store.capacity q.old) [] [] rounds.old }
     ensures first { P.Store.held p.new ≡ ran E.Entry (P.Store.capacity p.old) [] rounds.old }
     ensures second { Q.Store.held q.new ≡ ran E.Entry (Q.Store.capacity q.old) [] rounds.old }

@@ -1,13 +1,16 @@
-ghost use Rattle.std.specs.Prelude.{◌≡◌, ℕ, ◌+◌, ◌-◌, ◌^◌, ◌<◌, ◌≤◌, false, List, [], length, map, filter, nat_eq, slice_index};
-ghost use Rattle.antichain.specs.Limits.{max_level, max_entries, capacity_of};
+ghost use Rattle.std.specs.Prelude.{◌≡◌, ℕ, ◌+◌, ◌-◌, ◌^◌, ◌<◌, ◌≤◌, min, List, [], length, map, filter, nat_eq, slice_index};
+ghost use Rattle.std.proofs.Common.{arith};
+ghost use Rattle.antichain.specs.Limits.{max_level, max_entries};
 ghost use Rattle.antichain.specs.Adding.{uncovered, placed};
 ghost use Rattle.antichain.specs.Antichain.{ApartFrom};
 ghost use Rattle.antichain.specs.Layouts.{grouped, Grouped};
+ghost use Rattle.antichain.specs.Holding.{Holding};
 
 use crate::entry::Entry;
 use crate::limits::{MAX_LEVEL, STARTS};
 use crate::store::{AddAnswer, ListedStore, Store};
 use crate::table::{capacity_of, find_cover, put_in_order, retain};
+use std::marker::Model;
 
 // A store over a lent table that keeps levels together:
 // the entries of level l, in canonical order, are table[starts[l - 1]..starts[l]].
@@ -17,12 +20,20 @@ pub struct Levels<'a, E: Entry> {
     starts: [usize; STARTS],
 }
 
+// Callers see what the store means. What its layout keeps is so of every store, and no call asks for it.
+impl<'a, E: Entry> Model for Levels<'a, E> {
+    ghost Value = { Holding E };
+
+    ghost view = { λ s. record { places = length s.table.now; entries = grouped s.starts s.table.now } };
+
+    ghost invariant = { λ s. Grouped E.Entry s.starts s.table.now };
+}
+
 impl<'a, E: Entry> Levels<'a, E> {
     // An empty store over the table.
     pub fn new(table: &'a mut [E]) -> Levels<'a, E>
-        ensures sound { Grouped E.Entry result.starts result.table.now }
-        ensures held { grouped result.starts result.table.now ≡ [] }
-        ensures capacity { capacity_of result.table.now ≡ capacity_of table.old }
+        ensures places { result.places ≡ length table.old }
+        ensures held { result.entries ≡ [] }
     {
         Levels {
             table,
@@ -32,9 +43,8 @@ impl<'a, E: Entry> Levels<'a, E> {
 
     // The entries of level l, which stand together.
     fn of_level(&self, l: u8) -> &[E]
-        requires sound { Grouped E.Entry self.now.starts self.now.table.now }
-        requires level { (1 ≤ l) × (l ≤ max_level) }
-        ensures { result.now ≡ filter (λ x. nat_eq (E.Entry.level x) l) (grouped self.now.starts self.now.table.now) }
+        requires { (1 ≤ l) × (l ≤ max_level) }
+        ensures { result.now ≡ filter (λ x. nat_eq (E.Entry.level x) l) self.now.entries }
     {
         let from = self.starts[l as usize - 1];
         let to = self.starts[l as usize];
@@ -43,10 +53,9 @@ impl<'a, E: Entry> Levels<'a, E> {
 
     // Removes the entries that e covers, all of its level, and moves those behind them up.
     fn remove_covered(&mut self, e: &E)
-        requires { Grouped E.Entry self.old.starts self.old.table.now }
-        ensures sound { Grouped E.Entry self.new.starts self.new.table.now }
-        ensures held { grouped self.new.starts self.new.table.now ≡ uncovered E.Entry.covers e.now (grouped self.old.starts self.old.table.now) }
-        ensures capacity { capacity_of self.new.table.now ≡ capacity_of self.old.table.now }
+        ensures places { self.new.places ≡ self.old.places }
+        ensures held { self.new.entries ≡ uncovered E.Entry.covers e.now self.old.entries }
+        ensures fitted { length self.old.entries ≤ min self.old.places max_entries }
     {
         let l = e.level() as usize;
         let from = self.starts[l - 1];
@@ -60,12 +69,10 @@ impl<'a, E: Entry> Levels<'a, E> {
 
     // Puts e into its place, where it covers no entry and none covers it.
     fn insert(&mut self, e: E)
-        requires sound { Grouped E.Entry self.old.starts self.old.table.now }
-        requires apart { ApartFrom E.Entry.covers e (grouped self.old.starts self.old.table.now) }
-        requires room { slice_index self.old.starts max_level < capacity_of self.old.table.now }
-        ensures sound { Grouped E.Entry self.new.starts self.new.table.now }
-        ensures held { grouped self.new.starts self.new.table.now ≡ placed E.Entry.before e (grouped self.old.starts self.old.table.now) }
-        ensures capacity { capacity_of self.new.table.now ≡ capacity_of self.old.table.now }
+        requires apart { ApartFrom E.Entry.covers e self.old.entries }
+        requires room { length self.old.entries < min self.old.places max_entries }
+        ensures places { self.new.places ≡ self.old.places }
+        ensures held { self.new.entries ≡ placed E.Entry.before e self.old.entries }
     {
         put_in_order(self.table, self.starts[MAX_LEVEL], e);
         raise(&mut self.starts[e.level() as usize..]);
@@ -73,11 +80,11 @@ impl<'a, E: Entry> Levels<'a, E> {
 }
 
 impl<'a, E: Entry> Store<E> for Levels<'a, E> {
-    ghost capacity = { λ s. capacity_of s.table.now };
+    ghost capacity = { λ s. min s.places max_entries };
 
-    ghost held = { λ s. grouped s.starts s.table.now };
+    ghost held = { λ s. s.entries };
 
-    ghost sound = { λ s. Grouped E.Entry s.starts s.table.now };
+    ghost bounded = { λ s. Prim.omega arith };
 
     fn empty(&mut self) {
         self.starts = [0; STARTS];

@@ -10,6 +10,15 @@ fn per_second(calls: usize, time: Duration) -> u128 {
     calls as u128 * 1_000_000_000 / time.as_nanos().max(1)
 }
 
+// Does some work, and says what it gives and how long it takes.
+fn timed<R: Clock, F: FnOnce() -> usize + Drop>(rt: &R, work: F) -> io::Result<(usize, Duration)>
+    requires { F.IsAlwaysCallable work }
+{
+    let start = Instant::now(rt)?;
+    let done = work();
+    Ok((done, start.elapsed(rt)?))
+}
+
 // Adds the entries from `first` to `last`, replaces the first hundred, and looks up the last hundred, and as many sets
 // that no entry covers, since none has the member 101. Each is timed.
 fn step<S: ListedStore<Outer>, R: Print + Eprint + Clock>(
@@ -18,22 +27,15 @@ fn step<S: ListedStore<Outer>, R: Print + Eprint + Clock>(
     store: &mut S,
     first: u16,
     last: u16,
-) -> io::Result<()>
-    requires { S.Store.sound store.old }
-    ensures { S.Store.sound store.new }
-{
-    let start = Instant::now(rt)?;
-    let filled = add_each(store, first, last, apart);
-    let fill_time = start.elapsed(rt)?;
-    let start = Instant::now(rt)?;
-    let replaced = add_each(store, first, first.saturating_add(99), larger);
-    let replace_time = start.elapsed(rt)?;
-    let start = Instant::now(rt)?;
-    let covered = look_up(store, last.saturating_sub(99), last, 0);
-    let covered_time = start.elapsed(rt)?;
-    let start = Instant::now(rt)?;
-    let others = look_up(store, last.saturating_sub(99), last, 1 << 101);
-    let others_time = start.elapsed(rt)?;
+) -> io::Result<()> {
+    let late = last.saturating_sub(99);
+    let (filled, fill_time) = timed(rt, || add_each(store, first, last, apart))?;
+    let (replaced, replace_time) = timed(
+        rt,
+        || add_each(store, first, first.saturating_add(99), larger),
+    )?;
+    let (covered, covered_time) = timed(rt, || look_up(store, late, last, 0))?;
+    let (others, others_time) = timed(rt, || look_up(store, late, last, 1 << 101))?;
     let count = store.count();
     println!(rt; "{name} {count} {filled} {replaced} {covered} {others}")?;
     eprintln!(rt;
@@ -50,9 +52,7 @@ pub(crate) fn measure<S: ListedStore<Outer>, R: Print + Eprint + Clock>(
     rt: &R,
     name: &str,
     store: &mut S,
-) -> io::Result<()>
-    requires { S.Store.sound store.old }
-{
+) -> io::Result<()> {
     step(rt, name, store, 0, 99)?;
     step(rt, name, store, 100, 999)?;
     step(rt, name, store, 1000, 9999)?;

@@ -18,9 +18,7 @@ pub(crate) fn add_each<S: ListedStore<Outer>, F: Fn(u16) -> Card>(
     to: u16,
     card: F,
 ) -> usize
-    requires sound { S.Store.sound store.old }
-    requires callable { F.IsAlwaysCallable card }
-    ensures { S.Store.sound store.new }
+    requires { F.IsAlwaysCallable card }
 {
     let mut added = 0;
     for i in from..=to {
@@ -32,18 +30,12 @@ pub(crate) fn add_each<S: ListedStore<Outer>, F: Fn(u16) -> Card>(
 }
 
 // Looks up sets of entries, with an extra member or without.
-pub(crate) fn look_up<S: ListedStore<Outer>>(store: &S, from: u16, to: u16, extra: u128) -> usize
-    requires { S.Store.sound store.now }
-{
+pub(crate) fn look_up<S: ListedStore<Outer>>(store: &S, from: u16, to: u16, extra: u128) -> usize {
     (from..=to)
         .map(apart)
-        .filter(
-            |card: &Card| -> bool
-                requires { S.Store.sound store.now }
-            {
-                let wanted = Card::new(card.level(), card.set() | extra, 0);
-                store.cover(&Covering(wanted)).is_some()
-            },
-        )
+        .filter(|card| {
+            let wanted = Card::new(card.level(), card.set() | extra, 0);
+            store.cover(&Covering(wanted)).is_some()
+        })
         .count()
 }

@@ -7,14 +7,13 @@ loop-round-preserved g c =
     let i = c.loop-round.invariant in
     let p = c.apply.ensures in
     let q = c.apply-in-loop-round.ensures in (
-      (p.sound, q.sound),
-      p.capacity ∙ i.1,
-      q.capacity ∙ i.2,
-      playing_more i.3 c.round-item.result (omega (arith, c.loop-round.auto.round-items, c.loop-round-test.true)) i.1 p.answer p.held i.2 q.answer q.held,
+      p.capacity ∙ i.0,
+      q.capacity ∙ i.1,
+      playing_more i.2 c.round-item.result (omega (arith, c.loop-round.auto.round-items, c.loop-round-test.true)) i.0 p.answer p.held i.1 q.answer q.held,
     )
 
 pub returns : goal.returns
 returns g c =
     let i = c.loop-round.invariant in
-    let a = playing_all i.3 (omega (arith, c.loop-round.auto.round-items, c.loop-round-test.false)) in
-    record { sound = i.0; rounds = a.0; first = a.1; second = a.2; capacities = (i.1, i.2) }
+    let a = playing_all i.2 (omega (arith, c.loop-round.auto.round-items, c.loop-round-test.false)) in
+    record { rounds = a.0; first = a.1; second = a.2; capacities = (i.0, i.1) }

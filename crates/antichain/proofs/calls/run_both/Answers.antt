@@ -19,7 +19,6 @@ returns g c =
     let first : g.P.Store.held c.play.new.p ≡ ran e m [] rs = begun (λ k l. ran e k l rs) c.play.ensures.first p.capacity p.held in
     let second : g.Q.Store.held c.play.new.q ≡ ran e n [] rs = begun (λ k l. ran e k l rs) c.play.ensures.second q.capacity q.held in
     record {
-      sound = c.play.ensures.sound;
       rounds = rounds;
       first = first;
       second = second;

@@ -5,5 +5,5 @@ use Rattle.antichain.proofs.arrivals.ArrivalsListedStore.count.Goals as goal
 
 pub returns : goal.returns
 returns g c =
-    let s = c.args.self.now in
-    omega (arith, length-into g.E.Entry.before [] (take s.len s.table.now), length-take-le s.len s.table.now (omega (arith, c.requires.fits)))
+    let s = c.self.inside in
+    rw (← c.self.view_is) (omega (arith, length-into g.E.Entry.before [] (take s.len s.table.now), length-take-le s.len s.table.now (omega (arith, c.self.invariant.fits))))
