@@ -3,6 +3,7 @@ use Rattle.std.proofs.Common.{◌≡◌, ℕ, ◌+◌, ◌-◌, ◌<◌, ◌≤�
 use lib.Seq.{paste}
 use Rattle.std.specs.List.{AllByRecursion}
 use Rattle.std.proofs.lemmas.List.{take-take, length-drop}
+use Rattle.std.proofs.lemmas.List.Elements.{filter_agree}
 use Rattle.std.proofs.lemmas.List.Edits.{take-paste}
 use Rattle.std.proofs.lemmas.Slice.{between_is}
 use Rattle.std.proofs.lemmas.Bool.{cases_Bool, not_from_false, not-false, cases_lt, cases_order, eq-eqb, ne_eqb, eqb-false, leb-true, leb-false, le-leb, lt-leb, lt-ltb, le-ltb, ltb-true}
@@ -13,7 +14,7 @@ use Rattle.antichain.specs.Adding.{uncovered, above, placed}
 use Rattle.antichain.specs.Antichain.{ApartFrom}
 use Rattle.antichain.specs.Layouts.{upto, Ordered, Laid}
 use Rattle.antichain.proofs.Canonical.{before_levels}
-use Rattle.antichain.proofs.Kept.{length-kept, kept_sure, kept_both, kept_alike, count_out, count_in}
+use Rattle.antichain.proofs.Kept.{length-kept, kept_sure, kept_both, count_out, count_in}
 use Rattle.antichain.proofs.Sorting.{ordered_kept, ordered_placed, count_placed}
 use Rattle.antichain.proofs.Covering.{told_kept, apart_kept, apart_placed}
 
@@ -191,13 +192,13 @@ module _ {E : Type 0} {v s : E → ℕ} {c b : E → E → Bool} (w : Rules v s 
         let n = get_or starts max_level 0 - get_or starts m 0 in
         ap (λ j. take j (paste t 0 (drop (get_or starts m 0) t) n)) (sym (zero-add n)) ∙ take-paste t 0 (drop (get_or starts m 0) t) n (omega arith) (omega (arith, length-drop (get_or starts m 0) t, h.fits)) ∙
         between_is t (get_or starts m 0) (get_or starts max_level 0) ∙ ap (drop (get_or starts m 0)) (sym is) ∙ last m top ∙
-        kept_alike (λ x. ltb m (v x)) (λ x. ltb l (v x)) (λ x. both l x) xs
+        filter_agree (λ x. ltb m (v x)) (λ x. ltb l (v x)) (λ x. both l x) xs
 
     pub laid_above : (l : ℕ) (new : List ℕ) → ((k : ℕ) → k ≤ max_level → get_or new k 0 ≡ get_or starts k 0 - get_or starts (min l max_level) 0) → Laid v c b cap new (above v l xs)
     laid_above l new less = record {
       fits = omega (arith, less max_level (omega arith), h.fits);
       counts = λ k m.
-          less k m ∙ omega (arith, h.counts k m, h.counts (min l max_level) (omega arith), count_above v (min l max_level) k xs, ap (λ z. length (upto v k z)) (kept_alike (λ x. ltb (min l max_level) (v x)) (λ x. ltb l (v x)) (λ x. both l x) xs));
+          less k m ∙ omega (arith, h.counts k m, h.counts (min l max_level) (omega arith), count_above v (min l max_level) k xs, ap (λ z. length (upto v k z)) (filter_agree (λ x. ltb (min l max_level) (v x)) (λ x. ltb l (v x)) (λ x. both l x) xs));
       ordered = ordered_kept b _ xs h.ordered;
       apart = apart_kept c _ xs h.apart;
     }

@@ -1,12 +1,11 @@
 -- What a test keeps of a list, and how much.
 use Rattle.std.proofs.Common.{◌≡◌, ◌+◌, ◌≤◌, Bool, true, false, cond, List, [], ◌∷◌, length, filter, sym, refl, inl, inr, arith}
 use Rattle.std.proofs.lemmas.Bool.{cond_both, cases_Bool}
+use Rattle.std.proofs.lemmas.List.Sums.{length-filter, count_by-le-length}
 use Rattle.antichain.specs.Lookups.{Mem, Mem.here, Mem.there}
 
 pub length-kept : {E : Type 0} (p : E → Bool) (xs : List E) → length (filter p xs) ≤ length xs
-length-kept p [] = omega arith
-length-kept p (x ∷ xs) =
-    cond_both (p x) _ _ (λ l. length l ≤ length (x ∷ xs)) (λ _. omega (arith, length-kept p xs)) (λ _. omega (arith, length-kept p xs))
+length-kept p xs = omega (arith, length-filter p xs, count_by-le-length p xs)
 
 pub kept_same : {E : Type 0} (p : E → Bool) (xs : List E) → length xs ≤ length (filter p xs) → filter p xs ≡ xs
 kept_same p [] h = refl
@@ -30,10 +29,6 @@ module _ {E : Type 0} (p q : E → Bool) where
         | inl m ↦ elim (cases_Bool (p x)) [ inl n ↦ simp (m, n, sym (simp (m, n) at k), kept_both r h xs) | inr n ↦ simp (m, n, sym (simp (m, n) at k), kept_both r h xs) ]
         | inr m ↦ simp (m, sym (simp m at k), kept_both r h xs)
       ]
-
-  pub kept_alike : ((x : E) → p x ≡ q x) → (xs : List E) → filter p xs ≡ filter q xs
-  kept_alike h [] = refl
-  kept_alike h (x ∷ xs) = simp (h x, kept_alike h xs)
 
   -- p passes all that q leaves out, and none of it
   pub count_out : ((x : E) → q x ≡ false → p x ≡ true) → (xs : List E) → length (filter p (filter q xs)) + length xs ≡ length (filter p xs) + length (filter q xs)
