@@ -29,7 +29,8 @@ pub(crate) fn add_each<S: ListedStore<Outer>, F: Fn(u16) -> Card>(
     added
 }
 
-// Looks up sets of entries, with an extra member or without.
+// Looks up sets of entries, with an extra member or without. Both kinds of look-ups run the same code.
+#[inline(never)]
 pub(crate) fn look_up<S: ListedStore<Outer>>(store: &S, from: u16, to: u16, extra: u128) -> usize {
     (from..=to)
         .map(apart)
