@@ -2,7 +2,7 @@
 ghost use Rattle.std.specs.Prelude.{◌≡◌, ℕ, ◌≤◌};
 ghost use Rattle.antichain.specs.Limits.{max_level};
 ghost use Rattle.antichain.specs.Entries.{comes_before, covers_by};
-ghost use Rattle.antichain.specs.Inclusion.{covering, covering_itself, covering_on, covering_both, rules_by};
+ghost use Rattle.antichain.specs.Inclusion.{inside, covering, covering_itself, covering_on, covering_both, rules_by};
 
 use crate::entry::Entry;
 use std::fmt;
@@ -20,6 +20,13 @@ pub trait LeveledSet: Copy {
         ensures { result ≡ set self.now };
 
     ghost range: { (x : Self) → (1 ≤ level x) × (level x ≤ max_level) };
+}
+
+// Whether each member of s is one of t.
+fn is_inside(s: u128, t: u128) -> bool
+    ensures { result ≡ inside s t }
+{
+    s & t == s
 }
 
 // A kind of entry: with INSIDE it covers the sets that lie inside its own, and else those that its own lies inside.
@@ -49,12 +56,12 @@ impl<T: LeveledSet, const INSIDE: bool> Entry for Covering<T, INSIDE> {
     }
 
     fn covers(&self, other: &Self) -> bool {
-        let (inner, outer) = if INSIDE {
-            (other.0.set(), self.0.set())
-        } else {
-            (self.0.set(), other.0.set())
-        };
-        self.0.level() == other.0.level() && inner & outer == inner
+        self.0.level() == other.0.level()
+            && if INSIDE {
+                is_inside(other.0.set(), self.0.set())
+            } else {
+                is_inside(self.0.set(), other.0.set())
+            }
     }
 
     fn before(&self, other: &Self) -> bool {
