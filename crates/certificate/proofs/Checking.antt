@@ -1,7 +1,7 @@
 -- Positions and their successors, by levels.
-use Rattle.std.proofs.Common.{◌≡◌, ℕ, ◌+◌, ◌≤◌, Bool, true, false, eqb, List, [], ◌∷◌, length, take, drop, is_some, Some, None, Option, sym, refl, ap, ◌∙◌, arith}
+use Rattle.std.proofs.Common.{◌≡◌, ℕ, ◌+◌, ◌≤◌, Bool, true, false, eqb, List, length, take, drop, is_some, Some, None, Option, sym, ap, ◌∙◌, arith}
 use Rattle.std.specs.Option.{option_map}
-use Rattle.std.proofs.lemmas.List.{drop_all, length-map, length-take, length-drop}
+use Rattle.std.proofs.lemmas.List.{length-map, length-take}
 use denote.Enum.Bare.{sameb}
 use Rattle.truth.specs.declared.verdict.Verdict.{Verdict}
 use Rattle.truth.specs.declared.verdict.Verdict.TheVariants.{True, False}

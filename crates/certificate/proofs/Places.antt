@@ -1,8 +1,8 @@
 -- Where the entries of each level stand.
-use Rattle.std.proofs.Common.{◌≡◌, ℕ, ◌+◌, ◌-◌, ◌<◌, ◌≤◌, Bool, true, false, cond, eqb, List, [], ◌∷◌, ◌++◌, length, get_or, take, drop, set, replicate, sym, refl, ap, ◌∙◌, subst, inl, inr, arith}
+use Rattle.std.proofs.Common.{◌≡◌, ℕ, ◌+◌, ◌-◌, ◌<◌, ◌≤◌, Bool, true, false, eqb, List, [], ◌∷◌, ◌++◌, length, get_or, take, drop, set, replicate, sym, refl, ap, ◌∙◌, subst, inl, inr, arith}
 use Rattle.std.specs.List.{find}
-use Rattle.std.proofs.lemmas.List.{take_more, take_all, drop_all, drop-append-le, length-take-le, get_or-set_same, get_or-set_other, get_or-replicate, set_past, take-append-drop, drop-drop}
-use Rattle.std.proofs.lemmas.Bool.{cases_Bool, cases_eq, both_ways, and_left, eqb-true, ne_eqb, or_from, cond-true, cond-false, cond_both}
+use Rattle.std.proofs.lemmas.List.{take_more, take_all, drop_all, drop-append-le, length-take-le, get_or-set_same, get_or-set_other, get_or-replicate, take-append-drop, drop-drop}
+use Rattle.std.proofs.lemmas.Bool.{cases_Bool, cases_eq, both_ways, and_left, eqb-true, ne_eqb, or_from}
 use Rattle.truth.specs.Limits.{max_blocks}
 use Rattle.truth.specs.Truth.{any}
 use Rattle.entries.specs.declared.entry.Entry.{Entry}

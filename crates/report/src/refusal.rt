@@ -4,11 +4,9 @@ use text::faulty::faulty_line;
 // A line for people: bytes that are no printable ASCII as \x and two digits.
 fn print_line(rt: &HostRuntime, line: &[u8]) -> anyhow::Result<()> {
     for b in line {
-        if *b >= b' ' && *b <= b'~' {
-            let c = *b as char;
-            print!(rt; "{c}")?;
-        } else {
-            print!(rt; "\\x{b:02x}")?;
+        match b {
+            b' '..=b'~' => print!(rt; "{}", *b as char)?,
+            _ => print!(rt; "\\x{b:02x}")?,
         }
     }
     rt.println("")?;
@@ -27,13 +25,9 @@ pub fn print_refusal_in(
     formula: &[u8],
     certificate: &[u8],
 ) -> anyhow::Result<()> {
-    let layer = fault.layer().name();
-    let number = fault.number();
-    let line = fault.line;
-    let cause = fault.cause;
     println!(rt; "layer number line")?;
-    println!(rt; "{layer} {number} {line}")?;
-    println!(rt; "{cause}")?;
+    println!(rt; "{fault}")?;
+    println!(rt; "{}", fault.cause)?;
     match faulty_line(fault, formula, certificate) {
         Some(found) => print_line(rt, found),
         None => Ok(()),

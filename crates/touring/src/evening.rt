@@ -1,56 +1,48 @@
-use crate::sheet::{print_set, print_value};
+use crate::sheet::{Set, ValueAt};
 use certificate::accepted::Accepted;
 use certificate::plays::begin;
 use certificate::turns::{Ended, OtherTurn, Turn};
 use qbf::formula::Formula;
 
-// The value that a line writes in 0 and 1, or none.
+// The value that a line writes in up to 16 digits 0 and 1, or none.
 fn value_of(line: &str) -> Option<u16> {
-    let mut value = 0u16;
-    if line.len() == 0 || line.len() > 16 {
+    if line.len() > 16 || line.starts_with('+') {
         return None;
     }
-    for b in line.bytes() {
-        let digit = match b {
-            b'0' => 0,
-            b'1' => 1,
-            _ => return None,
-        };
-        value = (value % 32768) * 2 + digit;
-    }
-    Some(value)
+    u16::from_str_radix(line, 2).ok()
 }
 
-// Takes the next line of standard input as the other side's value: the turn then, and its level. A line that is no value
-// leaves it due; the input's end ends the evening.
+// Takes a line as the other side's value. One that is no value, or none of the block's, leaves it due.
 fn take_value<'a>(
     rt: &HostRuntime,
     formula: &Formula,
-    level: usize,
     turn: OtherTurn<'a>,
-) -> anyhow::Result<Option<(Turn<'a>, usize)>> {
-    let mut line = String::new(rt.alloc());
-    if rt.read_line(&mut line)? == 0 {
-        println!(rt; "level {level}: a value is due")?;
-        return Ok(None);
-    }
-    let Some(value) = value_of(line.as_str().trim_end()) else {
+    line: &str,
+) -> anyhow::Result<Turn<'a>> {
+    let level = turn.position().level;
+    let Some(value) = value_of(line) else {
         println!(rt; "level {level}: not a value, write it in 0 and 1")?;
-        return Ok(Some((Turn::Other(turn), level)));
+        return Ok(Turn::Other(turn));
     };
     match turn.take(value) {
         Ok(next) => {
-            print!(rt; "level {level}: value ")?;
-            print_value(rt, formula, level, value)?;
-            rt.println("")?;
-            Ok(Some((next, level.saturating_add(1))))
+            let value = ValueAt {
+                formula,
+                level,
+                value,
+            };
+            println!(rt; "level {level}: value {value}")?;
+            Ok(next)
         }
         Err(refused) => {
-            let layer = refused.fault.layer().name();
-            let number = refused.fault.number();
-            let cause = refused.fault.cause;
-            println!(rt; "level {level}: {layer} {number}, {cause}")?;
-            Ok(Some((Turn::Other(refused.turn), level)))
+            let fault = refused.fault;
+            println!(rt;
+                "level {level}: {} {}, {}",
+                fault.layer(),
+                fault.number(),
+                fault.cause
+            )?;
+            Ok(Turn::Other(refused.turn))
         }
     }
 }
@@ -58,39 +50,59 @@ fn take_value<'a>(
 // What a play has come to.
 fn print_end(rt: &HostRuntime, end: &Ended) -> anyhow::Result<()> {
     let played = end.played();
-    print!(rt; "ended: clauses left ")?;
-    print_set(rt, end.left())?;
-    print!(rt; "; true ")?;
-    print_set(rt, played.trues as u128)?;
-    print!(rt; "; false ")?;
-    print_set(rt, played.falses as u128)?;
-    rt.println("")?;
+    let trues = Set(played.trues as u128);
+    let falses = Set(played.falses as u128);
+    println!(rt;
+        "ended: clauses left {}; true {trues}; false {falses}",
+        Set(end.left())
+    )?;
     Ok(())
 }
 
-// Plays an accepted certificate: prints each reply as it is due, and takes each value of the other side.
-pub(crate) fn play(rt: &HostRuntime, formula: &Formula, accepted: Accepted) -> anyhow::Result<()> {
-    let mut turn = begin(accepted);
-    let mut level = 1usize;
-    for _ in 0..u32::MAX {
+// Prints each reply that is due, up to where a value of the other side is, or up to the end, and then none.
+fn next_due<'a>(
+    rt: &HostRuntime,
+    formula: &Formula,
+    turn: Turn<'a>,
+) -> anyhow::Result<Option<OtherTurn<'a>>> {
+    let mut turn = turn;
+    loop {
         turn = match turn {
-            Turn::Over(end) => return print_end(rt, &end),
-            Turn::Holder(holder) => {
-                let (value, next) = holder.reply();
-                print!(rt; "level {level}: reply ")?;
-                print_value(rt, formula, level, value)?;
-                rt.println("")?;
-                level = level.saturating_add(1);
-                next
+            Turn::Other(other) => return Ok(Some(other)),
+            Turn::Over(end) => {
+                print_end(rt, &end)?;
+                return Ok(None);
             }
-            Turn::Other(other) => {
-                let Some((next, then)) = take_value(rt, formula, level, other)? else {
-                    return Ok(());
+            Turn::Holder(holder) => {
+                let level = holder.position().level;
+                let (value, next) = holder.reply();
+                let value = ValueAt {
+                    formula,
+                    level,
+                    value,
                 };
-                level = then;
+                println!(rt; "level {level}: reply {value}")?;
                 next
             }
         };
     }
+}
+
+// Plays an accepted certificate: prints each reply as it is due, and takes each value of the other side from a line of
+// standard input. The input's end ends the evening.
+pub(crate) fn play(rt: &HostRuntime, accepted: Accepted) -> anyhow::Result<()> {
+    let formula = accepted.formula();
+    let Some(mut due) = next_due(rt, formula, begin(accepted))? else {
+        return Ok(());
+    };
+    for line in rt.lines(rt.alloc()) {
+        let line = line?;
+        let turn = take_value(rt, formula, due, line.as_str().trim_end())?;
+        let Some(next) = next_due(rt, formula, turn)? else {
+            return Ok(());
+        };
+        due = next;
+    }
+    println!(rt; "level {}: a value is due", due.position().level)?;
     Ok(())
 }

@@ -4,12 +4,14 @@
 mod evening;
 mod sheet;
 
+use certificate::accepted::Accepted;
 use certificate::check::check;
 use certificate_text::read::read as read_certificate;
 use entries::entry::{Entry, Reply};
 use evening::play;
 use faults::fault::Fault;
 use formula_text::read::read as read_formula;
+use qbf::formula::Formula;
 use report::refusal::print_refusal_in;
 use sheet::print_sheet;
 use std::io::Read;
@@ -30,40 +32,25 @@ fn text_of(rt: &HostRuntime, name: &str) -> anyhow::Result<Vec<u8>> {
     Ok(fs::read(rt, name)?)
 }
 
-// How many lines a text has at most: a table of that size has a place for each entry.
-fn places_for(text: &[u8]) -> usize {
-    let mut lines = 1usize;
-    for b in text {
-        if *b == b'\n' {
-            lines = lines.saturating_add(1);
-        }
-    }
-    lines
+// A table with a place for each line that a text can have, and so for each entry.
+fn table_for(rt: &HostRuntime, text: &[u8]) -> anyhow::Result<Vec<Entry>> {
+    let blank = Entry {
+        level: 0,
+        set: 0,
+        reply: Reply::None,
+    };
+    Ok(vec![in rt.alloc(); blank; text.split(|b| *b == b'\n').count()]?)
 }
 
-// Reads both texts and checks the certificate, prints its sheet, and plays what is offered.
-fn tour(
-    rt: &HostRuntime,
-    formula_text: &[u8],
-    certificate_text: &[u8],
-    table: &mut [Entry],
-) -> anyhow::Result<Result<(), Fault>> {
-    let formula = match read_formula(formula_text) {
-        Ok(formula) => formula,
-        Err(fault) => return Ok(Err(fault)),
-    };
-    let certificate = match read_certificate(certificate_text, &formula, table) {
-        Ok(certificate) => certificate,
-        Err(fault) => return Ok(Err(fault)),
-    };
+// Reads a certificate of a formula into a table, and checks it.
+fn accept<'a>(
+    formula: &'a Formula,
+    text: &[u8],
+    table: &'a mut [Entry],
+) -> Result<Accepted<'a>, Fault> {
+    let certificate = read_certificate(text, formula, table)?;
     let entries = table.get(0..certificate.count).unwrap_or(&[]);
-    let accepted = match check(&formula, certificate.verdict, entries) {
-        Ok(accepted) => accepted,
-        Err(fault) => return Ok(Err(fault)),
-    };
-    print_sheet(rt, &formula, certificate.verdict, entries)?;
-    play(rt, &formula, accepted)?;
-    Ok(Ok(()))
+    check(formula, certificate.verdict, entries)
 }
 
 fn run(rt: &HostRuntime) -> anyhow::Result<()> {
@@ -74,27 +61,19 @@ fn run(rt: &HostRuntime) -> anyhow::Result<()> {
         return Ok(());
     };
     let formula_text = text_of(rt, formula.as_str())?;
-    let certificate_text = text_of(rt, certificate.as_str())?;
-    let blank = Entry {
-        level: 0,
-        set: 0,
-        reply: Reply::None,
+    let text = text_of(rt, certificate.as_str())?;
+    let mut table = table_for(rt, text.as_slice())?;
+    let formula = read_formula(formula_text.as_slice());
+    let accepted = match &formula {
+        Ok(formula) => accept(formula, text.as_slice(), table.as_mut_slice()),
+        Err(fault) => Err(*fault),
     };
-    let mut table = vec![in rt.alloc(); blank; places_for(certificate_text.as_slice())]?;
-    let ended = tour(
-        rt,
-        formula_text.as_slice(),
-        certificate_text.as_slice(),
-        table.as_mut_slice(),
-    )?;
-    match ended {
-        Ok(()) => Ok(()),
-        Err(fault) => print_refusal_in(
-            rt,
-            fault,
-            formula_text.as_slice(),
-            certificate_text.as_slice(),
-        ),
+    match accepted {
+        Ok(accepted) => {
+            print_sheet(rt, &accepted)?;
+            play(rt, accepted)
+        }
+        Err(fault) => print_refusal_in(rt, fault, formula_text.as_slice(), text.as_slice()),
     }
 }
 

@@ -1,4 +1,3 @@
-use Rattle.std.proofs.Common.{arith}
 use Rattle.truth.specs.Verdicts.{is_true}
 use Rattle.qbf.specs.Held.{qbf_of}
 use Rattle.certificate.proofs.Checking.{leads_nowhere, leads_to}

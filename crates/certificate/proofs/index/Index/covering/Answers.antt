@@ -1,4 +1,4 @@
-use Rattle.std.proofs.Common.{get_or, ◌∙◌}
+use Rattle.std.proofs.Common.{◌∙◌}
 use Rattle.truth.specs.Verdicts.{is_true}
 use Rattle.certificate.proofs.Places.{first_within}
 use Rattle.certificate.proofs.index.Index.covering.Goals as goal
