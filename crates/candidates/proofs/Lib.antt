@@ -2,4 +2,3 @@ pub mod Sets
 pub mod Pruning
 pub mod Leaves
 pub mod Steps
-pub mod Holding

@@ -1,6 +1,6 @@
 // What the variables of a block from one on can satisfy of a set of clauses: that one if false (digit 0), that one
 // if true (digit 1), and all of them together at most.
-#[derive(Clone, Copy, Drop)]
+#[derive(Clone, Copy, Default, Drop)]
 pub(crate) struct Choice {
     pub(crate) low: u128,
     pub(crate) high: u128,

@@ -1,18 +1,15 @@
-ghost use Rattle.std.specs.Prelude.{◌≡◌, ◌≤◌, true, length, drop};
-ghost use Rattle.truth.specs.Limits.{max_width};
+ghost use Rattle.std.specs.Prelude.{◌≡◌, true};
 ghost use Rattle.candidates.specs.Hits.{reaching};
 
 mod next;
 
 use crate::choice::Choice;
+use arrayvec::ArrayVec;
 use truth::limits::MAX_WIDTH;
 
-// The variables of a block and what each satisfies, in the places from `start` on.
+// The variables of a block, from its first, and what each satisfies.
 #[derive(Drop)]
 pub struct Choices {
-    start: usize,
-    places: [Choice; MAX_WIDTH],
-    ghost within: { start ≤ max_width },
-    ghost table: { length places ≡ max_width },
-    ghost reaches: { reaching (drop start places) ≡ true },
+    held: ArrayVec<Choice, MAX_WIDTH>,
+    ghost reaches: { reaching held.items ≡ true },
 }

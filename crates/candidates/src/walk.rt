@@ -1,4 +1,4 @@
-ghost use Rattle.std.specs.Prelude.{◌≡◌, ◌+◌, ◌-◌, ◌^◌, ◌<◌, ◌≤◌, true, length, drop};
+ghost use Rattle.std.specs.Prelude.{◌≡◌, ◌+◌, ◌-◌, ◌*◌, ◌^◌, ◌<◌, ◌≤◌, true, length, bit_or};
 ghost use Rattle.truth.specs.Limits.{max_width};
 ghost use Rattle.candidates.specs.Hits.{reaching, at_least, may_reach, better};
 ghost use Rattle.candidates.specs.Walks.{some_hit, first_hit, good, Walked};
@@ -26,84 +26,113 @@ fn can_reach(quantifier: Quantifier, others: u128, hits: u128, reach: u128) -> b
     }
 }
 
-// Whether a value's hits beat those of another: at least as good, and not the same or of a lower value.
-fn is_better(quantifier: Quantifier, others: u128, other: u16, hits: u128, value: u16) -> bool
-    ensures { result ≡ better quantifier others other hits value }
-{
-    is_at_least(quantifier, others, hits) && (hits != others || value < other)
+impl Hit {
+    // The value 0 of no variables.
+    fn none() -> Hit
+        ensures { result ≡ record { value = 0; hits = 0 } }
+    {
+        Hit { value: 0, hits: 0 }
+    }
+
+    // One variable more, with the digit 0.
+    fn low(self, choice: &Choice) -> Hit
+        requires { 2 * self.value + 1 < 2 ^ 16 }
+        ensures { result ≡ record { value = 2 * self.value; hits = bit_or self.hits choice.now.low } }
+    {
+        Hit {
+            value: 2 * self.value,
+            hits: self.hits | choice.low,
+        }
+    }
+
+    // One variable more, with the digit 1.
+    fn high(self, choice: &Choice) -> Hit
+        requires { 2 * self.value + 1 < 2 ^ 16 }
+        ensures { result ≡ record { value = 2 * self.value + 1; hits = bit_or self.hits choice.now.high } }
+    {
+        Hit {
+            value: 2 * self.value + 1,
+            hits: self.hits | choice.high,
+        }
+    }
+
+    // Whether it beats another: its hits are at least as good, and not the same or of a lower value.
+    fn beats(self, quantifier: Quantifier, other: Hit) -> bool
+        ensures { result ≡ better quantifier other.hits other.value self.hits self.value }
+    {
+        let Hit { value, hits } = self;
+        is_at_least(quantifier, other.hits, hits) && (hits != other.hits || value < other.value)
+    }
 }
 
-// Whether some value that begins as given, with the hits so far, beats another.
-fn is_beaten(
-    quantifier: Quantifier,
-    choices: &[Choice],
-    others: u128,
-    other: u16,
-    hits: u128,
-    value: u16,
-) -> bool
-    requires reaches { reaching choices.now ≡ true }
-    requires narrow { length choices.now ≤ max_width }
-    requires small { value < 2 ^ (max_width - length choices.now) }
-    ensures { result ≡ some_hit (better quantifier others other) choices.now hits value }
+// Whether some value that goes on so, through the variables left, beats another.
+fn is_beaten(other: Hit, quantifier: Quantifier, left: &[Choice], so_far: Hit) -> bool
+    requires reaches { reaching left.now ≡ true }
+    requires narrow { length left.now ≤ max_width }
+    requires small { so_far.value < 2 ^ (max_width - length left.now) }
+    ensures { result ≡ some_hit (better quantifier other.hits other.value) left.now so_far.hits so_far.value }
 {
-    let Some((first, later)) = choices.split_first() else {
-        return is_better(quantifier, others, other, hits, value);
+    let Some((choice, later)) = left.split_first() else {
+        return so_far.beats(quantifier, other);
     };
-    if !can_reach(quantifier, others, hits, first.reach) {
+    if !can_reach(quantifier, other.hits, so_far.hits, choice.reach) {
         return false;
     }
-    if is_beaten(
-        quantifier,
-        later,
-        others,
-        other,
-        hits | first.low,
-        2 * value,
-    ) {
-        return true;
-    }
-    is_beaten(
-        quantifier,
-        later,
-        others,
-        other,
-        hits | first.high,
-        2 * value + 1,
-    )
+    is_beaten(other, quantifier, later, so_far.low(choice))
+        || is_beaten(other, quantifier, later, so_far.high(choice))
 }
 
-// The lowest value that begins as given, with the hits so far, is not below `from` and is not beaten.
-pub(crate) fn first_from(
+// The search for the lowest value that is not below `from` and is not beaten.
+#[derive(Drop)]
+struct Search<'a> {
     quantifier: Quantifier,
-    all: &[Choice],
-    depth: usize,
-    hits: u128,
-    value: u16,
+    all: &'a [Choice],
     from: u16,
-) -> Option<Hit>
-    requires reaches { reaching all.now ≡ true }
-    requires narrow { length all.now ≤ max_width }
-    requires within { depth ≤ length all.now }
-    requires small { value < 2 ^ depth }
-    requires walked { Walked all.now (drop depth all.now) hits value }
-    ensures { result ≡ first_hit (good quantifier all.now from) (drop depth all.now) hits value }
-{
-    if depth == all.len() {
-        if value < from || is_beaten(quantifier, all, hits, value, 0, 0) {
+    ghost reaches: { reaching all.now ≡ true },
+    ghost narrow: { length all.now ≤ max_width },
+}
+
+impl<'a> Search<'a> {
+    // The lowest such value that goes on so, through the variables left.
+    fn first(&self, left: &[Choice], so_far: Hit) -> Option<Hit>
+        requires narrow { length left.now ≤ max_width }
+        requires small { so_far.value < 2 ^ (max_width - length left.now) }
+        requires walked { Walked self.now.all.now left.now so_far.hits so_far.value }
+        ensures { result ≡ first_hit (good self.now.quantifier self.now.all.now self.now.from) left.now so_far.hits so_far.value }
+    {
+        let Some((choice, later)) = left.split_first() else {
+            if so_far.value < self.from
+                || is_beaten(so_far, self.quantifier, self.all, Hit::none())
+            {
+                return None;
+            }
+            return Some(so_far);
+        };
+        if so_far.value < self.from >> left.len() {
             return None;
         }
-        return Some(Hit { value, hits });
+        let low = so_far.low(choice);
+        let high = so_far.high(choice);
+        if let Some(found) = self.first(later, low) {
+            return Some(found);
+        }
+        if is_at_least(self.quantifier, high.hits, low.hits) {
+            return None;
+        }
+        self.first(later, high)
     }
-    if value < from >> (all.len() - depth) {
-        return None;
-    }
-    let Choice { low, high, .. } = all[depth];
-    if let Some(found) = first_from(quantifier, all, depth + 1, hits | low, 2 * value, from) {
-        return Some(found);
-    }
-    if is_at_least(quantifier, hits | high, hits | low) {
-        return None;
-    }
-    first_from(quantifier, all, depth + 1, hits | high, 2 * value + 1, from)
+}
+
+// The lowest value of a block that is not below `from` and is not beaten.
+pub(crate) fn first_from(quantifier: Quantifier, all: &[Choice], from: u16) -> Option<Hit>
+    requires reaches { reaching all.now ≡ true }
+    requires narrow { length all.now ≤ max_width }
+    ensures { result ≡ first_hit (good quantifier all.now from) all.now 0 0 }
+{
+    let search = Search {
+        quantifier,
+        all,
+        from,
+    };
+    search.first(all, Hit::none())
 }

@@ -1,36 +1,56 @@
 -- What the records that gather a line's numbers and literals hold of them.
-use Rattle.std.proofs.Common.{◌≡◌, ℕ, ◌+◌, ◌-◌, ◌^◌, ◌<◌, ◌≤◌, max, Bool, true, false, cond, ◌&&◌, leb, List, [], ◌∷◌, ◌++◌, length, take, set, sym, refl, ap, ◌∙◌, ap₂, inl, inr, arith}
+use Rattle.std.proofs.Common.{◌≡◌, ℕ, ◌+◌, ◌-◌, ◌^◌, ◌<◌, ◌≤◌, max, Bool, true, false, cond, ◌&&◌, ltb, leb, List, [], ◌∷◌, ◌++◌, length, Some, None, sym, refl, ap, ◌∙◌, ap₂, inl, inr, arith}
 use lib.Bits.{bit_or, or_comm, or_zero_r}
-use Rattle.std.proofs.lemmas.List.{append-nil, append_assoc, length-set, take_more_set}
-use Rattle.std.proofs.lemmas.Bool.{cases_Bool, leb-true, leb-false, le-leb, lt-leb, and_parts, cond-true}
+use Rattle.std.proofs.lemmas.List.{append-nil, append_assoc, length-append, length_push}
+use Rattle.std.proofs.lemmas.Bool.{cases_Bool, leb-true, leb-false, ltb-true, ltb-false, le-leb, lt-leb, and_parts, cond-true, ne_eqb}
+use Rattle.arrayvec.specs.ArrayVec.{ArrayVec}
 use Rattle.truth.specs.declared.literal.Literal.{Literal}
 use Rattle.truth.specs.declared.literal.Clause.{Clause}
-use Rattle.formula_text.specs.declared.numbers.Numbers.{Numbers}
 use Rattle.formula_text.specs.declared.gather.Gathered.{Gathered}
 use Rattle.truth.specs.Limits.{max_variables, max_width}
 use Rattle.truth.specs.Syntax.{with_literal, clause_of}
 use Rattle.truth.specs.WellFormed.{all}
-use Rattle.formula_text.specs.Gathered.{none, wider, widened, nothing, further, gathered}
+use Rattle.formula_text.specs.Gathered.{no_numbers, wider, widened, has_none, fitting, nothing, further, gathered}
 use Rattle.truth.proofs.Bits.{or_assoc}
 
-pub count_widened : (b : Numbers) (vs : List ℕ) → (widened b vs).count ≡ b.count + length vs
-count_widened b [] = omega arith
-count_widened b (v ∷ vs) = omega (arith, count_widened (wider b v) vs)
+-- A number more than fits stays one too many.
+widened_none : (vs : List ℕ) → widened None vs ≡ None
+widened_none [] = refl
+widened_none (v ∷ vs) = widened_none vs
 
--- As long as there are places, each variable is written after those before it.
-places_widened : (b : Numbers) (vs : List ℕ) → b.count + length vs ≤ length b.first → take (b.count + length vs) (widened b vs).first ≡ take b.count b.first ++ vs
-places_widened b [] h = let z : b.count + 0 ≡ b.count = omega arith in rw (z, append-nil)
-places_widened b (v ∷ vs) h =
-    let n : b.count + length (v ∷ vs) ≡ b.count + 1 + length vs = omega arith in
-    let room : b.count < length b.first = omega arith in
-    let fits : b.count + 1 + length vs ≤ length (set b.first b.count v) = omega (arith, length-set b.first b.count v) in
-    ap (λ k. take k (widened (wider b v) vs).first) n
-    ∙ places_widened (wider b v) vs fits
-    ∙ ap (λ xs. xs ++ vs) (take_more_set b.first b.count v room)
-    ∙ append_assoc (take b.count b.first) (v ∷ []) vs
+-- As long as there are places, each number is written after those before it.
+widened_after : (xs vs : List ℕ) → length xs ≤ max_width → widened (Some (record { items = xs })) vs ≡ fitting (xs ++ vs)
+widened_after xs [] h = rw append-nil (simp (le-leb (length xs) max_width h))
+widened_after xs (v ∷ vs) h =
+    elim (cases_Bool (ltb (length xs) max_width)) [
+      | inl t ↦
+          let room : length (xs ++ v ∷ []) ≤ max_width = omega (arith, ltb-true (length xs) max_width t, length_push xs v) in
+          simp t (widened_after (xs ++ v ∷ []) vs room ∙ ap fitting (append_assoc xs (v ∷ []) vs))
+      | inr t ↦
+          let over : leb (length (xs ++ v ∷ vs)) max_width ≡ false = lt-leb _ _ (omega (arith, ltb-false (length xs) max_width t, length-append xs (v ∷ vs))) in
+          simp (t, over) (widened_none vs)
+    ]
 
-pub numbers_widened : (vs : List ℕ) → length vs ≤ max_width → take (widened none vs).count (widened none vs).first ≡ vs
-numbers_widened vs h = ap (λ k. take k (widened none vs).first) (count_widened none vs) ∙ places_widened none vs (omega arith)
+pub numbers_widened : (vs : List ℕ) → widened no_numbers vs ≡ fitting vs
+numbers_widened vs = widened_after [] vs (omega arith)
+
+pub is_fitting : (vs : List ℕ) (b : ArrayVec ℕ) → fitting vs ≡ Some b → (b.items ≡ vs) × (length vs ≤ max_width)
+is_fitting vs b e =
+    elim (cases_Bool (leb (length vs) max_width)) [
+      | inl t ↦ let same : ◌≡◌ {A = ArrayVec ℕ} (record { items = vs }) b = (let f : fitting vs ≡ Some (record { items = vs }) = simp t in cc) in (ap (λ y. y.items) (sym same), leb-true (length vs) max_width t)
+      | inr t ↦ absurd (let f : fitting vs ≡ None = simp t in let z : ◌≡◌ {A = ℕ} 0 1 = cc in omega arith)
+    ]
+
+pub not_fitting : (vs : List ℕ) → fitting vs ≡ None → max_width < length vs
+not_fitting vs e =
+    elim (cases_Bool (leb (length vs) max_width)) [
+      | inl t ↦ absurd (let f : fitting vs ≡ Some (record { items = vs }) = simp t in let z : ◌≡◌ {A = ℕ} 0 1 = cc in omega arith)
+      | inr t ↦ leb-false (length vs) max_width t
+    ]
+
+-- Where there is a number, some are there.
+pub some_number : (v : ℕ) (vs : List ℕ) → has_none (fitting (v ∷ vs)) ≡ false
+some_number v vs = elim (leb (length (v ∷ vs)) max_width) as (λ t. has_none (cond t (Some (record { items = v ∷ vs })) None) ≡ false) [ true ↦ ne_eqb (length (v ∷ vs)) 0 (λ e. omega arith) | false ↦ refl ]
 
 leb-max : (a b v : ℕ) → leb (max a b) v ≡ (leb a v && leb b v)
 leb-max a b v =

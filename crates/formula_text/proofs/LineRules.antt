@@ -1,29 +1,31 @@
 -- What the tests of a block line and of a clause line decide.
-use Rattle.std.proofs.Common.{◌≡◌, ℕ, ◌<◌, ◌≤◌, Bool, true, false, cond, not, ◌&&◌, ◌||◌, eqb, ltb, leb, List, [], ◌∷◌, ◌++◌, length, take, Some, None, Ok, Err, Option, Result, sym, refl, ap, ◌∙◌, subst, ap₂, zero-add, arith}
+use Rattle.std.proofs.Common.{◌≡◌, ℕ, ◌<◌, ◌≤◌, Bool, true, false, cond, not, ◌&&◌, ◌||◌, eqb, ltb, leb, List, [], ◌∷◌, ◌++◌, length, Some, None, Ok, Err, Option, Result, sym, refl, ap, ◌∙◌, subst, ap₂, arith}
 use lib.Bits.{bit_and, bit_or}
 use Rattle.std.specs.Option.{ok_or, option_map}
-use Rattle.std.proofs.lemmas.Bool.{leb-true, leb-false, le-leb, lt-leb, ltb-false, and_parts, and_from, eqb-false, or_parts}
+use Rattle.std.proofs.lemmas.List.{length-map}
+use Rattle.std.proofs.lemmas.Bool.{leb-true, le-leb, lt-leb, lt-ltb, le-ltb, and_parts, and_from, eqb-false, or_right}
 use Rattle.faults.specs.declared.cause.Cause.TheVariants.{OverLimit, BadVariable, BadAlternation, UnboundVariable}
 use Rattle.faults.specs.declared.fault.Fault.{Fault}
 use Rattle.text.specs.Rows.{fields_of}
 use Rattle.text.specs.Taken.{and_then}
 use Rattle.truth.specs.declared.literal.Quantifier.{Quantifier}
 use Rattle.truth.specs.declared.literal.Literal.{Literal}
-use Rattle.formula_text.specs.declared.numbers.Numbers.{Numbers}
+use Rattle.arrayvec.specs.ArrayVec.{ArrayVec}
 use Rattle.formula_text.specs.declared.counts.Counts.{Counts}
 use Rattle.qbf.specs.declared.prefix.Prefix.{Prefix}
 use Rattle.formula_text.specs.declared.gather.Gathered.{Gathered}
 use Rattle.truth.specs.Limits.{max_variables, max_blocks, max_width}
 use Rattle.truth.specs.Syntax.{Block, bound_in, mask_of, clause_of}
 use Rattle.truth.specs.WellFormed.{all, elem, distinct, positive, ranged, existential, repeats}
+use Rattle.qbf.specs.Stored.{block_of}
 use Rattle.qbf.specs.Held.{blocks_in}
 use Rattle.formula_text.specs.Literals.{literal_of, literals_of}
-use Rattle.formula_text.specs.Gathered.{none, widened, nothing, gathered}
+use Rattle.formula_text.specs.Gathered.{Numbers, fitting, nothing, gathered}
 use Rattle.qbf.specs.Bound.{bind_all, Binds}
 use Rattle.formula_text.specs.Parse.{fault, variables_of, clause_literals, place_block, bind_clause}
-use Rattle.qbf.proofs.Fronts.{blocks_count}
 use Rattle.qbf.proofs.Masks.{closed-elem}
-use Rattle.formula_text.proofs.Gathering.{count_widened, numbers_widened, highest_gathered, clause_gathered}
+use Rattle.qbf.proofs.Refereeing.{all_ranged_up}
+use Rattle.formula_text.proofs.Gathering.{is_fitting, not_fitting, highest_gathered, clause_gathered}
 use Rattle.truth.proofs.Members.{all_append, all_weaker}
 use Rattle.formula_text.proofs.Binding.{bound_by_rule, bind_rule}
 use Rattle.formula_text.proofs.LiteralForms.{then_some, cond_cases, ended-made}
@@ -99,62 +101,50 @@ module _ (n : ℕ) (h : Counts) (p : Prefix) (line : List ℕ) (g : Gathered) (a
 
 -- A block line after the blocks of a prefix, of which the numbers were gathered.
 module _ (n : ℕ) (h : Counts) (p : Prefix) (q : Quantifier) (next : Bool) (line : List ℕ) (numbers : Numbers) (at : Fault)
-    (got : Ok numbers ≡ ok_or (option_map (widened none) (variables_of line)) at) where
+    (got : Ok numbers ≡ ok_or (option_map fitting (variables_of line)) at) where
   abbrev bs : List Block
   bs = blocks_in p
-
-  abbrev block : Block
-  block = record { quantifier = q; variables = take numbers.count numbers.first }
 
   abbrev placed : Option (List ℕ) → Result Block Fault
   placed o = place_block n h bs q next o
 
-  numbers_are : (vs : List ℕ) → Some vs ≡ variables_of line → numbers ≡ widened none vs
-  numbers_are vs o_is = let e : Ok numbers ≡ Ok (widened none vs) = got ∙ ap (λ x. ok_or (option_map (widened none) x) at) (sym o_is) in cc
+  numbers_are : (vs : List ℕ) → Some vs ≡ variables_of line → numbers ≡ fitting vs
+  numbers_are vs o_is = let e : Ok numbers ≡ Ok (fitting vs) = got ∙ ap (λ x. ok_or (option_map fitting x) at) (sym o_is) in cc
 
   none_read : None ≡ variables_of line → ⊥
   none_read o_is =
-      let e : Ok numbers ≡ Err at = got ∙ ap (λ x. ok_or (option_map (widened none) x) at) (sym o_is) in
+      let e : Ok numbers ≡ Err at = got ∙ ap (λ x. ok_or (option_map fitting x) at) (sym o_is) in
       let z : ◌≡◌ {A = ℕ} 0 1 = cc in omega arith
 
-  count_is : (vs : List ℕ) → Some vs ≡ variables_of line → numbers.count ≡ length vs
-  count_is vs o_is = ap (λ b. b.count) (numbers_are vs o_is) ∙ count_widened none vs ∙ zero-add (length vs)
-
-  abbrev over : Bool
-  over = leb max_blocks (length bs) || ltb max_width numbers.count
-
-  over_is : (vs : List ℕ) → Some vs ≡ variables_of line → (leb max_blocks (length bs) || ltb max_width (length vs)) ≡ over
-  over_is vs o_is = ap (λ k. leb max_blocks (length bs) || ltb max_width k) (sym (count_is vs o_is))
-
-  pub block_over : over ≡ true → placed (variables_of line) ≡ Err (fault OverLimit n)
-  block_over t = from (variables_of line) refl
-    where
-      from : (o : Option (List ℕ)) → o ≡ variables_of line → placed o ≡ Err (fault OverLimit n)
-      from None o_is = absurd (none_read o_is)
-      from (Some vs) o_is = simp (over_is vs o_is, t)
-
   -- Within the limits the mask decides.
-  module _ (within : over ≡ false) where
+  module _ (variables : ArrayVec ℕ) (some_is : numbers ≡ Some variables) (room : length p.blocks.items < max_blocks) where
+    abbrev block : Block
+    block = record { quantifier = q; variables = variables.items }
+
+    fits : (vs : List ℕ) → Some vs ≡ variables_of line → (variables.items ≡ vs) × (length vs ≤ max_width)
+    fits vs o_is = is_fitting vs variables (sym (numbers_are vs o_is) ∙ some_is)
+
+    within : (vs : List ℕ) → Some vs ≡ variables_of line → (leb max_blocks (length bs) || ltb max_width (length vs)) ≡ false
+    within vs o_is = ap₂ ◌||◌ (lt-leb max_blocks (length bs) (omega (arith, length-map p.blocks.items block_of))) (le-ltb max_width (length vs) (fits vs o_is).1)
+
     abbrev ruled : Option ℕ → Result Block Fault
     ruled None = Err (fault BadVariable n)
     ruled (Some m) = cond (repeats q bs || not (existential q || next)) (Err (fault BadAlternation n)) (Ok block)
 
     abbrev tried : Option ℕ
-    tried = bind_all h.variables p.bound (take numbers.count numbers.first)
+    tried = bind_all h.variables p.bound variables.items
 
     stored : (vs : List ℕ) → Some vs ≡ variables_of line → block ≡ record { quantifier = q; variables = vs }
-    stored vs o_is =
-        ap (λ xs. record { quantifier = q; variables = xs })
-        (ap (λ b. take b.count b.first) (numbers_are vs o_is) ∙ numbers_widened vs (omega (arith, count_is vs o_is, ltb-false max_width numbers.count (or_parts (leb max_blocks (length bs)) (ltb max_width numbers.count) within).1)))
+    stored vs o_is = ap (λ xs. record { quantifier = q; variables = xs }) (fits vs o_is).0
 
     tried_is : (vs : List ℕ) → Some vs ≡ variables_of line → tried ≡ bind_rule h.variables (bound_in bs) vs
     tried_is vs o_is =
-        ap₂ (bind_all h.variables) p.binds.0 (ap (λ b. b.variables) (stored vs o_is)) ∙ bound_by_rule h.variables (bound_in bs) vs p.binds.1 p.binds.2
+        ap₂ (bind_all h.variables) p.binds.0 (fits vs o_is).0 ∙ bound_by_rule h.variables (bound_in bs) vs p.binds.1 p.binds.2
 
     by_mask : (o : Option (List ℕ)) → o ≡ variables_of line → placed o ≡ ruled tried
     by_mask None o_is = absurd (none_read o_is)
     by_mask (Some vs) o_is =
-        simp (over_is vs o_is, within, tried_is vs o_is)
+        simp (within vs o_is, tried_is vs o_is)
         (elim (all (ranged h.variables) vs && distinct (bound_in bs ++ vs)) as (λ u.
         cond (not u) (Err (fault BadVariable n)) (cond (repeats q bs || not (existential q || next)) (Err (fault BadAlternation n)) (Ok (record { quantifier = q; variables = vs })))
         ≡ ruled (cond u (Some (mask_of (bound_in bs ++ vs))) None)) [ true ↦ ap (λ b. cond (repeats q bs || not (existential q || next)) (Err (fault BadAlternation n)) (Ok b)) (sym (stored vs o_is)) | false ↦ refl ])
@@ -169,21 +159,28 @@ module _ (n : ℕ) (h : Counts) (p : Prefix) (q : Quantifier) (next : Bool) (lin
       pub block_placed : (repeats q bs || not (existential q || next)) ≡ false → placed (variables_of line) ≡ Ok block
       block_placed m = by_mask (variables_of line) refl ∙ ap ruled (sym e) ∙ simp m
 
-      by_rule : (vs : List ℕ) → Some vs ≡ variables_of line → (u : Bool) → u ≡ (all (ranged h.variables) vs && distinct (bound_in bs ++ vs)) → Some all_bound ≡ cond u (Some (mask_of (bound_in bs ++ vs))) None → Binds all_bound (bound_in bs ++ vs)
-      by_rule vs o_is false u-is f = absurd (let z : ◌≡◌ {A = ℕ} 0 1 = cc in omega arith)
-      by_rule vs o_is true u-is f =
+      by_rule : (vs : List ℕ) → (u : Bool) → u ≡ (all (ranged h.variables) vs && distinct (bound_in bs ++ vs)) → Some all_bound ≡ cond u (Some (mask_of (bound_in bs ++ vs))) None →
+          Binds all_bound (bound_in bs ++ vs) × (all (ranged h.variables) vs ≡ true)
+      by_rule vs false u-is f = absurd (let z : ◌≡◌ {A = ℕ} 0 1 = cc in omega arith)
+      by_rule vs true u-is f =
           let r = and_parts (all (ranged h.variables) vs) (distinct (bound_in bs ++ vs)) (sym u-is) in
           let low = all_weaker (ranged h.variables) positive (λ v t. (and_parts (positive v) (leb v h.variables) t).0) vs r.0 in
-          (cc, r.1, all_append positive (bound_in bs) vs ∙ and_from (all positive (bound_in bs)) (all positive vs) p.binds.2 low)
+          ((cc, r.1, all_append positive (bound_in bs) vs ∙ and_from (all positive (bound_in bs)) (all positive vs) p.binds.2 low), r.0)
 
-      binds_from : (o : Option (List ℕ)) → o ≡ variables_of line → Binds all_bound (bound_in (bs ++ (block ∷ [])))
-      binds_from None o_is = absurd (none_read o_is)
-      binds_from (Some vs) o_is =
-          subst (Binds all_bound) (sym (bound_push bs block ∙ ap (λ b. bound_in bs ++ b.variables) (stored vs o_is)))
-          (by_rule vs o_is (all (ranged h.variables) vs && distinct (bound_in bs ++ vs)) refl (e ∙ tried_is vs o_is))
+      bound_from : (o : Option (List ℕ)) → o ≡ variables_of line → Binds all_bound (bound_in (bs ++ (block ∷ []))) × (all (ranged h.variables) variables.items ≡ true)
+      bound_from None o_is = absurd (none_read o_is)
+      bound_from (Some vs) o_is =
+          let r = by_rule vs (all (ranged h.variables) vs && distinct (bound_in bs ++ vs)) refl (e ∙ tried_is vs o_is) in (
+            subst (Binds all_bound) (sym (bound_push bs block ∙ ap (λ b. bound_in bs ++ b.variables) (stored vs o_is))) r.0,
+            ap (all (ranged h.variables)) (fits vs o_is).0 ∙ r.1,
+          )
 
       pub block_binds : Binds all_bound (bound_in (bs ++ (block ∷ [])))
-      block_binds = binds_from (variables_of line) refl
+      block_binds = (bound_from (variables_of line) refl).0
 
-    pub block_room : p.count < max_blocks
-    block_room = omega (arith, blocks_count p, leb-false max_blocks (length bs) (or_parts (leb max_blocks (length bs)) (ltb max_width numbers.count) within).0)
+      pub block_ranged : h.variables ≤ max_variables → all (ranged max_variables) variables.items ≡ true
+      block_ranged few = all_ranged_up h.variables max_variables variables.items few (bound_from (variables_of line) refl).1
+
+pub block_narrow : (o : Option (List ℕ)) (variables : ArrayVec ℕ) (at : Fault) → Ok (Some variables) ≡ ok_or (option_map fitting o) at → length variables.items ≤ max_width
+block_narrow None variables at e = cc
+block_narrow (Some vs) variables at e = let is : Some variables ≡ fitting vs = cc in let f = is_fitting vs variables (sym is) in omega (arith, ap length f.0, f.1)

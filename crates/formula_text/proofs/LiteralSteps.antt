@@ -1,15 +1,14 @@
 -- The steps of a loop that takes literals.
-use Rattle.std.proofs.Common.{◌≡◌, ℕ, true, false, List, [], ◌∷◌, Some, None, Ok, Err, Option, sym, refl, ap, ◌∙◌, arith}
+use Rattle.std.proofs.Common.{◌≡◌, ℕ, true, false, List, [], ◌∷◌, Some, None, Ok, Err, Option, sym, refl, ap, ◌∙◌}
 use Rattle.std.specs.Option.{ok_or, option_map}
 use Rattle.faults.specs.declared.fault.Fault.{Fault}
 use Rattle.std.proofs.lemmas.Bool.{ne_eqb}
 use Rattle.text.specs.Taken.{and_then, take_field}
 use Rattle.truth.specs.declared.literal.Literal.{Literal}
-use Rattle.formula_text.specs.declared.numbers.Numbers.{Numbers}
 use Rattle.formula_text.specs.declared.gather.Gathered.{Gathered}
 use Rattle.formula_text.specs.Literals.{literal_of, literals_of, prepend, positives, some}
-use Rattle.formula_text.specs.Gathered.{none, wider, widened, further, gathered}
-use Rattle.formula_text.proofs.Gathering.{count_widened}
+use Rattle.formula_text.specs.Gathered.{Numbers, no_numbers, wider, widened, has_none, fitting, further, gathered}
+use Rattle.formula_text.proofs.Gathering.{numbers_widened, some_number}
 
 pub literals_more : (ws left : List (List ℕ)) (w : List ℕ) (l : Literal) → take_field ws ≡ Some (w, left) → literal_of w ≡ Some l → (l.variable ≡ 0 → ⊥) → literals_of ws ≡ prepend l (literals_of left)
 literals_more [] left w l t e n = cc
@@ -39,33 +38,39 @@ widened_more o (Some ls) l b x e n h =
     let o_is : o ≡ Some (l ∷ ls) = e in
     sym (onward l ls b n) ∙ ap (λ y. option_map (widened b) (and_then y positives)) (sym o_is) ∙ h
 
-none_stays : (at : Fault) (b : Numbers) (x : Option (List ℕ)) → None ≡ option_map (widened b) x → Err at ≡ ok_or (option_map (widened none) (and_then x some)) at
-none_stays at b None h = refl
-none_stays at b (Some vs) h = cc
-
-none_written : (at : Fault) (b : Numbers) (x : Option (List ℕ)) → Some b ≡ option_map (widened none) x → b.count ≡ 0 → Err at ≡ ok_or (option_map (widened none) (and_then x some)) at
-none_written at b None h z = refl
-none_written at b (Some []) h z = refl
-none_written at b (Some (v ∷ vs)) h z =
-    let e : widened none (v ∷ vs) ≡ b = cc in absurd (omega (arith, count_widened none (v ∷ vs), ap (λ y. y.count) e))
-
-all-written : (at : Fault) (b : Numbers) (x : Option (List ℕ)) → Some b ≡ option_map (widened none) x → (b.count ≡ 0 → ⊥) → Ok b ≡ ok_or (option_map (widened none) (and_then x some)) at
-all-written at b None h n = cc
-all-written at b (Some []) h n = let e : none ≡ b = cc in absurd (n (ap (λ y. y.count) (sym e)))
-all-written at b (Some (v ∷ vs)) h n = cc
-
 -- How the loop ends: at a negated number, with no number, or with a block. Here x is what all fields write.
-module _ (at : Fault) (o : Option (List Literal)) (b first : Numbers) (x : Option (List ℕ))
-    (same : option_map (widened b) (and_then o positives) ≡ option_map (widened first) x) (starts : first ≡ none) where
-  begun : option_map (widened first) x ≡ option_map (widened none) x
-  begun = ap (λ y. option_map (widened y) x) starts
+module _ (at : Fault) (o : Option (List Literal)) (b : Numbers) (x : Option (List ℕ))
+    (same : option_map (widened b) (and_then o positives) ≡ option_map (widened no_numbers) x) where
+  pub block_negated : (left : Option (List Literal)) (l : Literal) → o ≡ prepend l left → l.negative ≡ true → Err at ≡ ok_or (option_map fitting (and_then x some)) at
+  block_negated None l e n = none_stays x (cc)
+    where
+      none_stays : (x : Option (List ℕ)) → None ≡ option_map (widened no_numbers) x → Err at ≡ ok_or (option_map fitting (and_then x some)) at
+      none_stays None h = refl
+      none_stays (Some vs) h = cc
+  block_negated (Some ls) l e n = none_stays x (cc)
+    where
+      none_stays : (x : Option (List ℕ)) → None ≡ option_map (widened no_numbers) x → Err at ≡ ok_or (option_map fitting (and_then x some)) at
+      none_stays None h = refl
+      none_stays (Some vs) h = cc
 
-  pub block_negated : (left : Option (List Literal)) (l : Literal) → o ≡ prepend l left → l.negative ≡ true → Err at ≡ ok_or (option_map (widened none) (and_then x some)) at
-  block_negated None l e n = none_stays at first x (cc)
-  block_negated (Some ls) l e n = none_stays at first x (cc)
+  written : o ≡ Some [] → Some b ≡ option_map (widened no_numbers) x
+  written e = ap (λ y. option_map (widened b) (and_then y positives)) (sym e) ∙ same
 
-  pub block_empty : o ≡ Some [] → b.count ≡ 0 → Err at ≡ ok_or (option_map (widened none) (and_then x some)) at
-  block_empty e z = none_written at b x (ap (λ y. option_map (widened b) (and_then y positives)) (sym e) ∙ same ∙ begun) z
+  pub block_empty : o ≡ Some [] → has_none b ≡ true → Err at ≡ ok_or (option_map fitting (and_then x some)) at
+  block_empty e z = by x (written e)
+    where
+      by : (x : Option (List ℕ)) → Some b ≡ option_map (widened no_numbers) x → Err at ≡ ok_or (option_map fitting (and_then x some)) at
+      by None h = refl
+      by (Some []) h = refl
+      by (Some (v ∷ vs)) h =
+          let is : b ≡ widened no_numbers (v ∷ vs) = cc in
+          let none = ap has_none (is ∙ numbers_widened (v ∷ vs)) ∙ some_number v vs in
+          cc
 
-  pub block_whole : o ≡ Some [] → (b.count ≡ 0 → ⊥) → Ok b ≡ ok_or (option_map (widened none) (and_then x some)) at
-  block_whole e n = all-written at b x (ap (λ y. option_map (widened b) (and_then y positives)) (sym e) ∙ same ∙ begun) n
+  pub block_whole : o ≡ Some [] → has_none b ≡ false → Ok b ≡ ok_or (option_map fitting (and_then x some)) at
+  block_whole e n = by x (written e)
+    where
+      by : (x : Option (List ℕ)) → Some b ≡ option_map (widened no_numbers) x → Ok b ≡ ok_or (option_map fitting (and_then x some)) at
+      by None h = cc
+      by (Some []) h = let is : b ≡ no_numbers = cc in let none = ap has_none is in cc
+      by (Some (v ∷ vs)) h = let is : b ≡ widened no_numbers (v ∷ vs) = cc in ap Ok (is ∙ numbers_widened (v ∷ vs))

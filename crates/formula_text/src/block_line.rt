@@ -5,37 +5,29 @@ ghost use Rattle.truth.specs.Syntax.{bound_in};
 ghost use Rattle.truth.specs.WellFormed.{existential, repeats};
 ghost use Rattle.qbf.specs.Stored.{block_of};
 ghost use Rattle.qbf.specs.Held.{blocks_in};
-ghost use Rattle.formula_text.specs.Gathered.{none, widened};
+ghost use Rattle.formula_text.specs.Gathered.{fitting};
 ghost use Rattle.qbf.specs.Bound.{Binds};
 ghost use Rattle.formula_text.specs.Parse.{variables_of, read_block};
 
 use crate::bind::bind;
 use crate::counts::Counts;
-use crate::gather::gather_numbers;
+use crate::gather::{Numbers, gather_numbers};
 use crate::header::take_letter;
-use crate::numbers::Numbers;
 use faults::cause::Cause;
 use faults::fault::Fault;
 use qbf::block::Block;
 use qbf::prefix::Prefix;
 use text::fields::Fields;
-use truth::limits::{MAX_BLOCKS, MAX_WIDTH};
+use truth::limits::MAX_BLOCKS;
 use truth::literal::Quantifier;
 
 // The numbers of a block line.
 fn numbers_of(line: &[u8], fault: Fault) -> Result<Numbers, Fault>
-    ensures { result ≡ ok_or (option_map (widened none) (variables_of line.now)) fault }
+    ensures { result ≡ ok_or (option_map fitting (variables_of line.now)) fault }
 {
     let mut fields = Fields::of(line, fault)?;
     take_letter(&mut fields)?;
     gather_numbers(&mut fields)
-}
-
-// Whether one block more, of these numbers, would be over a limit.
-fn is_over(prefix: &Prefix, numbers: &Numbers) -> bool
-    ensures { result ≡ (nat_le max_blocks (length (blocks_in prefix.now)) || nat_lt max_width numbers.now.count) }
-{
-    prefix.len() >= MAX_BLOCKS || numbers.count > MAX_WIDTH
 }
 
 // Whether a block may not stand here: it repeats the quantifier before it, or is universal with no block line next.
@@ -61,28 +53,24 @@ pub(crate) fn read_block(
     next: bool,
 ) -> Result<(Block, u64), Fault>
     requires { counts.variables ≤ max_variables }
-    ensures { MatchResult result (λ p. (read_block n counts (blocks_in prefix.now) quantifier next line.now ≡ Ok (block_of p.0)) × (prefix.now.count < max_blocks) × Binds p.1 (bound_in (blocks_in prefix.now ++ (block_of p.0 ∷ [])))) (λ e. read_block n counts (blocks_in prefix.now) quantifier next line.now ≡ Err e) }
+    ensures { MatchResult result (λ p. (read_block n counts (blocks_in prefix.now) quantifier next line.now ≡ Ok (block_of p.0)) × (length prefix.now.blocks.items < max_blocks) × Binds p.1 (bound_in (blocks_in prefix.now ++ (block_of p.0 ∷ [])))) (λ e. read_block n counts (blocks_in prefix.now) quantifier next line.now ≡ Err e) }
 {
     let numbers = numbers_of(line, Fault::new(Cause::FormulaForm, n))?;
-    if is_over(prefix, &numbers) {
+    let Some(variables) = numbers else {
+        return Err(Fault::new(Cause::OverLimit, n));
+    };
+    if prefix.len() >= MAX_BLOCKS {
         return Err(Fault::new(Cause::OverLimit, n));
     }
-    let Some(bound) = bind(
-        &numbers.first[0..numbers.count],
-        counts.variables,
-        prefix.bound,
-    ) else {
+    let Some(bound) = bind(variables.as_slice(), counts.variables, prefix.bound) else {
         return Err(Fault::new(Cause::BadVariable, n));
     };
     if misplaced(prefix, quantifier, next) {
         return Err(Fault::new(Cause::BadAlternation, n));
     }
-    Ok((
-        Block {
-            quantifier,
-            width: numbers.count,
-            variables: numbers.first,
-        },
-        bound,
-    ))
+    let block = Block {
+        quantifier,
+        variables,
+    };
+    Ok((block, bound))
 }

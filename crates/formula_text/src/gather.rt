@@ -2,13 +2,13 @@ ghost use Rattle.std.specs.Prelude.{◌≡◌, ◌≤◌};
 ghost use Rattle.std.specs.Option.{ok_or, option_map};
 ghost use Rattle.text.specs.Left.{fields_left};
 ghost use Rattle.formula_text.specs.Literals.{literals_of, numbers_of};
-ghost use Rattle.formula_text.specs.Gathered.{none, widened, nothing, further, gathered};
+ghost use Rattle.formula_text.specs.Gathered.{wider, has_none, fitting, nothing, further, gathered};
 
 use crate::literals::next_literal;
-use crate::numbers::Numbers;
+use arrayvec::ArrayVec;
 use faults::fault::Fault;
 use text::fields::Fields;
-use truth::limits::MAX_VARIABLES;
+use truth::limits::{MAX_VARIABLES, MAX_WIDTH};
 use truth::literal::{Clause, Literal, mask};
 
 // The literals of a clause line: their set, as far as the masks reach, and the highest variable.
@@ -65,18 +65,40 @@ pub(crate) fn gather(fields: &mut Fields) -> Result<Gathered, Fault>
     Ok(all)
 }
 
+// The numbers of a block line, or none where there are more than a block may bind.
+pub(crate) type Numbers = Option<ArrayVec<u32, MAX_WIDTH>>;
+
+// One number more.
+fn with_number(numbers: Numbers, number: u32) -> Numbers
+    ensures { result ≡ wider numbers number }
+{
+    let mut all = numbers?;
+    all.try_push(number).ok()?;
+    Some(all)
+}
+
+// Whether there is no number yet.
+fn has_none(numbers: &Numbers) -> bool
+    ensures { result ≡ has_none numbers.now }
+{
+    match numbers {
+        Some(all) => all.is_empty(),
+        None => false,
+    }
+}
+
 // Takes all numbers that are left of a block line.
 pub(crate) fn gather_numbers(fields: &mut Fields) -> Result<Numbers, Fault>
-    ensures { result ≡ ok_or (option_map (widened none) (numbers_of (fields_left fields.old))) fields.old.fault }
+    ensures { result ≡ ok_or (option_map fitting (numbers_of (fields_left fields.old))) fields.old.fault }
 {
-    let mut numbers = Numbers::new();
+    let mut numbers = Some(ArrayVec::new());
     while let Some(literal) = next_literal(fields)? {
         if literal.negative {
             return Err(fields.fault());
         }
-        numbers.push(literal.variable);
+        numbers = with_number(numbers, literal.variable);
     }
-    if numbers.count == 0 {
+    if has_none(&numbers) {
         return Err(fields.fault());
     }
     Ok(numbers)

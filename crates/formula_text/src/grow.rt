@@ -15,12 +15,10 @@ use truth::literal::Clause;
 
 // One block more, within the limit, and the mask of all variables then bound.
 pub(crate) fn push_block(prefix: &mut Prefix, block: Block, bound: u64)
-    requires { (prefix.old.count < max_blocks) × (Binds bound (bound_in (blocks_in prefix.old ++ (block_of block ∷ [])))) }
+    requires { (length prefix.old.blocks.items < max_blocks) × (Binds bound (bound_in (blocks_in prefix.old ++ (block_of block ∷ [])))) }
     ensures { blocks_in prefix.new ≡ blocks_in prefix.old ++ (block_of block ∷ []) }
 {
-    let count = prefix.count;
-    prefix.blocks[count] = block;
-    prefix.count = count + 1;
+    prefix.blocks.push(block);
     prefix.bound = bound;
 }
 
@@ -29,9 +27,7 @@ pub(crate) fn push_clause(matrix: &mut Matrix, clause: Clause)
     requires { length (clauses_in matrix.old) < max_clauses }
     ensures { clauses_in matrix.new ≡ clauses_in matrix.old ++ (clause ∷ []) }
 {
-    let count = matrix.count;
-    matrix.clauses[count] = clause;
-    matrix.count = count + 1;
+    matrix.clauses.push(clause);
 }
 
 // The formula that all lines together make.

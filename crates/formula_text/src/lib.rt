@@ -10,5 +10,4 @@ mod grow;
 mod header;
 mod kind;
 mod literals;
-mod numbers;
 pub mod read;

@@ -1,5 +1,5 @@
-mod Marks
-pub mod Fronts
+pub mod Marks
+pub mod Lasts
 pub mod Masks
 pub mod Numbered
 pub mod Refereeing

@@ -1,21 +1,23 @@
 -- The candidates of a position are the values that none beats in what they satisfy of its set.
-use Rattle.std.proofs.Common.{◌≡◌, ℕ, suc, ◌+◌, ◌-◌, ◌/◌, ◌%◌, ◌^◌, ◌<◌, ◌≤◌, Bool, true, false, cond, not, ◌&&◌, ◌||◌, eqb, ltb, List, [], ◌∷◌, length, get_or, drop, Some, None, filter, Option, sym, refl, ap, ◌∙◌, subst, ap₂, inl, inr, arith}
+use Rattle.std.proofs.Common.{◌≡◌, ℕ, suc, ◌+◌, ◌-◌, ◌/◌, ◌%◌, ◌^◌, ◌<◌, ◌≤◌, Bool, true, false, cond, not, ◌&&◌, ◌||◌, eqb, ltb, List, [], ◌∷◌, ◌++◌, length, Some, None, filter, Option, sym, refl, ap, ◌∙◌, append_assoc, subst, ap₂, inl, inr, arith}
 use mathlib.Core.Path.{fun_ext}
 use lib.Bits.{bit_and, bit_or, and_zero_r}
 use Rattle.std.specs.Option.{option_map}
-use Rattle.std.proofs.lemmas.List.{at_drop_more, at_drop_all, length-drop}
-use Rattle.std.proofs.lemmas.Bool.{cases_eq, both_ways, eqb-true, eq-eqb, ne_eqb, lt-ltb, cond-true}
+use Rattle.std.proofs.lemmas.List.{length-append}
+use Rattle.std.proofs.lemmas.Bool.{cases_eq, both_ways, eqb-true, eq-eqb, ne_eqb, lt-ltb, cond-true, and_parts}
 use Rattle.truth.specs.declared.literal.Quantifier.{Quantifier}
 use Rattle.truth.specs.declared.literal.Quantifier.TheVariants.{Existential, Universal}
 use Rattle.truth.specs.declared.literal.Clause.{Clause}
 use Rattle.truth.specs.Limits.{max_width}
 use Rattle.truth.specs.Syntax.{Block, Qbf}
+use Rattle.truth.specs.WellFormed.{all}
 use Rattle.truth.specs.Sets.{inside}
 use Rattle.truth.specs.Places.{numbered}
 use Rattle.truth.specs.Truth.{any, below, rest_under, whole}
 use Rattle.truth.specs.Occurrences.{occurrences, settled}
 use Rattle.truth.specs.Candidates.{beats, candidate, candidates_at, first_from}
 use Rattle.truth.proofs.Bits.{Sub, sub_self, of_sub, and_or}
+use Rattle.truth.proofs.Members.{all_append}
 use Rattle.truth.proofs.Settling.{rest-settled, settled_sub}
 use Rattle.truth.proofs.Complements.{minus_inside, minus_same, and_sub, and_minus, sub_le}
 use Rattle.candidates.specs.declared.choice.Choice.{Choice}
@@ -139,19 +141,15 @@ module _ (f : Qbf) (level s from : ℕ) (b : Block) (is : Some b ≡ numbered f.
     pub next_less : x.hits ≤ bit_and s w
     next_less = subst (λ n. x.hits ≤ bit_and s n) (sym all) (some_of f.matrix b s x told (e ∙ told_is)).1
 
--- The loop that gathers choices, from the last variable to the first.
-module _ (cs : List Clause) (s : ℕ) (xs : List ℕ) (i : ℕ) where
-  pub offered_end : length xs ≤ i → [] ≡ offered cs s (drop i xs)
-  offered_end h = sym (at_drop_all (offered cs s) xs i h)
+-- The loop that gathers choices, from the last variable to the first: one more of those left.
+module _ (vs left before behind : List ℕ) (x : ℕ) (is : vs ≡ left ++ behind) (last : left ≡ before ++ (x ∷ [])) where
+  pub parted : vs ≡ before ++ (x ∷ behind)
+  parted = is ∙ ap (λ ys. ys ++ behind) last ∙ append_assoc before (x ∷ []) behind
 
-  module _ (held next : List Choice) (room : Bool) (is : held ≡ offered cs s (drop i xs)) (some : 0 < i) (within-xs : i ≤ length xs) (narrow : length xs ≤ max_width) (low high : ℕ) where
-    pub offered_more : room ≡ ltb (length held) max_width → low ≡ bit_and s (occurrences false cs (get_or xs (i - 1) 0)) → high ≡ bit_and s (occurrences true cs (get_or xs (i - 1) 0)) →
-        next ≡ cond room (ahead low high held ∷ held) held → next ≡ offered cs s (drop (i - 1) xs)
-    offered_more r l h e =
-        let fits : length held < max_width = omega (arith, ap length is, offered-length cs s (drop i xs), length-drop i xs) in
-        let after : i - 1 + 1 ≡ i = omega arith in
-        let x = get_or xs (i - 1) 0 in
-        e ∙ cond-true room _ _ (r ∙ lt-ltb _ _ fits)
-        ∙ ap₂ (λ a d. ahead a d held ∷ held) l h
-        ∙ ap (λ hs. ahead (bit_and s (occurrences false cs x)) (bit_and s (occurrences true cs x)) hs ∷ hs) is
-        ∙ sym (at_drop_more (offered cs s) xs (i - 1) 0 (omega arith) ∙ ap (λ n. offered cs s (x ∷ drop n xs)) after)
+  pub last_passes : (p : ℕ → Bool) → all p vs ≡ true → p x ≡ true
+  last_passes p h =
+      let later = and_parts (all p before) (all p (x ∷ behind)) (sym (ap (all p) parted ∙ all_append p before (x ∷ behind)) ∙ h) in
+      (and_parts (p x) (all p behind) later.1).0
+
+  pub room_left : (cs : List Clause) (s : ℕ) → length vs ≤ max_width → ltb (length (offered cs s behind)) max_width ≡ true
+  room_left cs s narrow = lt-ltb _ _ (omega (arith, ap length parted, length-append before (x ∷ behind), offered-length cs s behind))

@@ -1,7 +1,9 @@
 -- Deciding a formula one variable after another.
-use Rattle.std.proofs.Common.{◌≡◌, ℕ, ◌+◌, ◌*◌, ◌<◌, ◌≤◌, Bool, true, false, ◌&&◌, leb, List, [], ◌∷◌, map, length, get_or, take, drop, Some, None, Option, sym, refl, ap, ◌∙◌, ap₂, arith}
-use Rattle.std.proofs.lemmas.List.{at_drop_more, at_drop_all, length-append, length-take-le}
-use Rattle.std.proofs.lemmas.Bool.{and_from, and_parts, and_left, leb-true, le-leb, cond-true, cond-false}
+use Rattle.std.proofs.Common.{◌≡◌, ℕ, ◌+◌, ◌*◌, ◌<◌, ◌≤◌, Bool, true, false, ◌&&◌, leb, List, [], ◌∷◌, map, length, sum_by, Some, None, Option, sym, refl, ap, ◌∙◌, ap₂, arith}
+use Rattle.std.proofs.lemmas.List.{length-append}
+use Rattle.std.proofs.lemmas.List.Sums.{sum_by-cons}
+use Rattle.std.specs.List.{list_all}
+use Rattle.std.proofs.lemmas.Bool.{and_from, and_parts, leb-true, le-leb, cond-true, cond-false}
 use Rattle.truth.specs.declared.literal.Quantifier.{Quantifier}
 use Rattle.truth.specs.declared.literal.Clause.{Clause}
 use Rattle.qbf.specs.declared.block.Block.{Block as StoredBlock}
@@ -15,49 +17,28 @@ use Rattle.truth.specs.Truth.{satisfied, holds}
 use Rattle.truth.specs.Plain.{bind_before, single, plain, holds_plainly}
 use Rattle.truth.specs.TruthLaws.{TruthLaws}
 use Rattle.truth.specs.Verdicts.{few_bound, if_few}
-use Rattle.truth.proofs.Members.{all_append}
 use Rattle.truth.proofs.OneByOne.{formulas_plain}
 use Rattle.truth.proofs.Truths.{truth_laws}
 
-abbrev pub no_clause : Clause
-no_clause = record { positive = 0; negative = 0 }
-
--- The steps of a loop that stops at the first element that fails a test, at index i.
-module _ {A : Type 0} (p : A → Bool) (xs : List A) (i : ℕ) (x : Bool) (same : all p (drop i xs) ≡ x) where
-  all_here : (d : A) → i < length xs → (p (get_or xs i d) && all p (drop (i + 1) xs)) ≡ x
-  all_here d h = sym (at_drop_more (all p) xs i d h) ∙ same
-
-  pub all_stop : (d : A) → i < length xs → p (get_or xs i d) ≡ false → false ≡ x
-  all_stop d h e = sym (and_left _ _ e) ∙ all_here d h
-
-  pub all_more : (d : A) → i < length xs → p (get_or xs i d) ≡ true → all p (drop (i + 1) xs) ≡ x
-  all_more d h e = sym (ap (λ t. t && all p (drop (i + 1) xs)) e) ∙ all_here d h
-
-  pub all_end : length xs ≤ i → true ≡ x
-  all_end h = sym (at_drop_all (all p) xs i h) ∙ same
+-- A test of all elements, as the library has it.
+pub all_list : {A : Type 0} (p : A → Bool) (xs : List A) → list_all p xs ≡ all p xs
+all_list p [] = refl
+all_list p (x ∷ xs) = ap (λ t. p x && t) (all_list p xs)
 
 abbrev pub bound_of : List StoredBlock → List ℕ
 bound_of bs = bound_in (map block_of bs)
 
-width_is : (b : StoredBlock) → length (take b.width b.variables) ≡ b.width
-width_is b = length-take-le b.width b.variables (omega (arith, b.narrow, b.table))
-
-bound_cons : (b : StoredBlock) (bs : List StoredBlock) → length (bound_of (b ∷ bs)) ≡ b.width + length (bound_of bs)
-bound_cons b bs = length-append (take b.width b.variables) (bound_of bs) ∙ ap (λ n. n + length (bound_of bs)) (width_is b)
+bound_cons : (b : StoredBlock) (bs : List StoredBlock) → length (bound_of (b ∷ bs)) ≡ length b.variables.items + length (bound_of bs)
+bound_cons b bs = length-append b.variables.items (bound_of bs)
 
 pub bound_few : (bs : List StoredBlock) → length (bound_of bs) ≤ max_width * length bs
 bound_few [] = omega arith
 bound_few (b ∷ bs) = omega (arith, bound_cons b bs, bound_few bs, b.narrow)
 
--- The steps of a loop that counts variables, at index i.
-module _ (bs : List StoredBlock) (i n x : ℕ) (same : n + length (bound_of (drop i bs)) ≡ x) where
-  pub count_more : i < length bs → (b : StoredBlock) → b ≡ get_or bs i b → n + b.width + length (bound_of (drop (i + 1) bs)) ≡ x
-  count_more h b e =
-      let left = at_drop_more (λ ys. length (bound_of ys)) bs i b h ∙ ap (λ y. length (bound_of (y ∷ drop (i + 1) bs))) (sym e) ∙ bound_cons b (drop (i + 1) bs) in
-      omega (arith, left)
-
-  pub count_end : length bs ≤ i → n ≡ x
-  count_end h = omega (arith, at_drop_all (λ ys. length (bound_of ys)) bs i h)
+-- The widths of blocks together.
+pub bound_sum : (bs : List StoredBlock) → sum_by (λ b. length b.variables.items) bs ≡ length (bound_of bs)
+bound_sum [] = refl
+bound_sum (b ∷ bs) = sum_by-cons (λ b. length b.variables.items) b bs ∙ ap (λ n. length b.variables.items + n) (bound_sum bs) ∙ sym (bound_cons b bs)
 
 -- What is left when all variables have a value, and where a block begins.
 module _ (cs : List Clause) (q : Quantifier) (t f : ℕ) (r : Bool) where
@@ -67,27 +48,16 @@ module _ (cs : List Clause) (q : Quantifier) (t f : ℕ) (r : Bool) where
   decided_end (x ∷ xs) bs h k e = absurd (omega arith)
   decided_end [] (b ∷ bs) h k e = absurd (omega arith)
 
-  pub decided_block : (xs : List ℕ) (bs inner : List StoredBlock) (b : StoredBlock) (vs : List ℕ) → length xs ≡ 0 → bs ≡ b ∷ inner → vs ≡ take b.width b.variables →
+  pub decided_block : (xs : List ℕ) (bs inner : List StoredBlock) (b : StoredBlock) (vs : List ℕ) → length xs ≡ 0 → bs ≡ b ∷ inner → vs ≡ b.variables.items →
       r ≡ plain cs (bind_before b.quantifier vs (single (map block_of inner))) t f → r ≡ plain cs (bind_before q xs (single (map block_of bs))) t f
   decided_block [] bs inner b vs h k l e =
       e ∙ ap (λ ys. plain cs (bind_before b.quantifier ys (single (map block_of inner))) t f) l ∙ ap (λ ys. plain cs (single (map block_of ys)) t f) (sym k)
   decided_block (x ∷ xs) bs inner b vs h k l e = absurd (omega arith)
 
-module _ (highest : ℕ) (bs inner : List StoredBlock) (b : StoredBlock) (k : bs ≡ b ∷ inner) (all_in : all (ranged highest) (bound_of bs) ≡ true) where
-  parts : (all (ranged highest) (take b.width b.variables) ≡ true) × (all (ranged highest) (bound_of inner) ≡ true)
-  parts = and_parts _ _ (sym (all_append (ranged highest) (take b.width b.variables) (bound_of inner)) ∙ ap (λ ys. all (ranged highest) (bound_of ys)) (sym k) ∙ all_in)
-
-  pub block_ranged : (vs : List ℕ) → vs ≡ take b.width b.variables → all (ranged highest) vs ≡ true
-  block_ranged vs e = ap (all (ranged highest)) e ∙ parts.0
-
-  pub inner_ranged : all (ranged highest) (bound_of inner) ≡ true
-  inner_ranged = parts.1
-
 -- A block begins with fewer steps left, at most twelve for its variables and one for itself.
-pub block_fewer : (xs vs : List ℕ) (bs inner : List StoredBlock) (b : StoredBlock) → bs ≡ b ∷ inner → vs ≡ take b.width b.variables →
+pub block_fewer : (xs vs : List ℕ) (bs inner : List StoredBlock) (b : StoredBlock) → bs ≡ b ∷ inner → vs ≡ b.variables.items →
     length vs + 13 * length inner < length xs + 13 * length bs
-block_fewer xs vs bs inner b k e =
-    omega (arith, ap length e, width_is b, b.narrow, ap length k)
+block_fewer xs vs bs inner b k e = omega (arith, ap length e, b.narrow, ap length k)
 
 ranged_up : (low high v : ℕ) → low ≤ high → ranged low v ≡ true → ranged high v ≡ true
 ranged_up low high v h e =
@@ -114,7 +84,7 @@ pub record Refereed (f : Qbf) (o : Option Bool) : Type 0 where
   pub blocks : o ≡ if_few holds f
   pub laws : TruthLaws
 
-module _ (f : Formula) (bs : List StoredBlock) (is : bs ≡ take f.prefix.count f.prefix.blocks) where
+module _ (f : Formula) (bs : List StoredBlock) (is : bs ≡ f.prefix.blocks.items) where
   few_bound_lem : leb (length (bound_of bs)) max_decided ≡ few_bound (qbf_of f)
   few_bound_lem = ap (λ xs. leb (length (bound_of xs)) max_decided) is
 
@@ -123,7 +93,7 @@ module _ (f : Formula) (bs : List StoredBlock) (is : bs ≡ take f.prefix.count 
       let many = sym few_bound_lem ∙ h in
       record { plainly = told_none holds_plainly (qbf_of f) many; blocks = told_none holds (qbf_of f) many; laws = truth_laws }
 
-  pub refereed_some : leb (length (bound_of bs)) max_decided ≡ true → (cs : List Clause) → cs ≡ take f.matrix.count f.matrix.clauses → (b : Bool) → b ≡ plain cs (single (map block_of bs)) 0 0 → Refereed (qbf_of f) (Some b)
+  pub refereed_some : leb (length (bound_of bs)) max_decided ≡ true → (cs : List Clause) → cs ≡ f.matrix.clauses.items → (b : Bool) → b ≡ plain cs (single (map block_of bs)) 0 0 → Refereed (qbf_of f) (Some b)
   refereed_some h cs held b e =
       let few = sym few_bound_lem ∙ h in
       let same = e ∙ ap₂ (λ xs ys. plain xs (single (map block_of ys)) 0 0) held is in

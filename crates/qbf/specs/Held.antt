@@ -1,5 +1,5 @@
 -- The formula that a prefix and a matrix hold.
-use Rattle.std.specs.Prelude.{List, take, Ok, Err, Result}
+use Rattle.std.specs.Prelude.{List, Ok, Err, Result}
 use Rattle.faults.specs.declared.fault.Fault.{Fault}
 use Rattle.truth.specs.declared.literal.Clause.{Clause}
 use Rattle.qbf.specs.declared.prefix.Prefix.{Prefix}
@@ -9,10 +9,10 @@ use Rattle.truth.specs.Syntax.{Block, Qbf}
 use Rattle.qbf.specs.Stored.{blocks_of}
 
 abbrev pub blocks_in : Prefix → List Block
-blocks_in p = blocks_of p.count p.blocks
+blocks_in p = blocks_of p.blocks.items
 
 abbrev pub clauses_in : Matrix → List Clause
-clauses_in m = take m.count m.clauses
+clauses_in m = m.clauses.items
 
 abbrev pub qbf_of : Formula → Qbf
 qbf_of f = record { variables = f.variables; prefix = blocks_in f.prefix; matrix = clauses_in f.matrix }

@@ -8,4 +8,3 @@ pub mod matrix;
 pub mod occurrences;
 pub mod prefix;
 pub mod referee;
-mod tables;

@@ -1,34 +1,43 @@
-ghost use Rattle.std.specs.Prelude.{◌≡◌, ◌≤◌, [], length, take};
+ghost use Rattle.std.specs.Prelude.{◌≡◌, ◌≤◌, [], length};
 ghost use Rattle.truth.specs.Limits.{max_clauses};
+ghost use Rattle.truth.specs.Places.{numbered};
 
+use arrayvec::ArrayVec;
 use truth::limits::MAX_CLAUSES;
 use truth::literal::Clause;
 
 // Clauses, numbered from 1 in line order.
 #[derive(Drop)]
 pub struct Matrix {
-    pub count: usize,
-    pub clauses: [Clause; MAX_CLAUSES],
-    ghost few: { count ≤ max_clauses },
-    ghost table: { length clauses ≡ max_clauses },
+    pub clauses: ArrayVec<Clause, MAX_CLAUSES>,
+    ghost few: { length clauses.items ≤ max_clauses },
 }
 
 impl Matrix {
     pub fn new() -> Matrix
-        ensures { take result.count result.clauses ≡ [] }
+        ensures { result.clauses.items ≡ [] }
     {
         Matrix {
-            count: 0,
-            clauses: [Clause {
-                positive: 0,
-                negative: 0,
-            }; MAX_CLAUSES],
+            clauses: ArrayVec::new(),
         }
     }
 
     pub fn list(&self) -> &[Clause]
-        ensures { result.now ≡ take self.now.count self.now.clauses }
+        ensures { result.now ≡ self.now.clauses.items }
     {
-        &self.clauses[0..self.count]
+        self.clauses.as_slice()
+    }
+
+    pub fn len(&self) -> usize
+        ensures { result ≡ length self.now.clauses.items }
+    {
+        self.clauses.len()
+    }
+
+    // The clause with a number from 1.
+    pub(crate) fn clause(&self, number: usize) -> Option<Clause>
+        ensures { result ≡ numbered self.now.clauses.items number }
+    {
+        self.list().get(number.checked_sub(1)?).copied()
     }
 }

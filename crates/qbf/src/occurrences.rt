@@ -1,6 +1,7 @@
-ghost use Rattle.std.specs.Prelude.{◌≡◌, ℕ, ◌+◌, ◌<◌, ◌≤◌, true, false, length, take};
+ghost use Rattle.std.specs.Prelude.{◌≡◌, ◌≤◌, length};
 ghost use Rattle.truth.specs.Limits.{max_variables, max_clauses};
 ghost use Rattle.truth.specs.Occurrences.{occurrences};
+ghost use Rattle.qbf.specs.Held.{clauses_in};
 ghost use Rattle.qbf.specs.Tabled.{Tabled};
 
 use crate::matrix::Matrix;
@@ -9,48 +10,49 @@ use truth::literal::Clause;
 // A place for each variable that there can be.
 const PLACES: usize = 64;
 
-// For each variable, at the place before its number, the clauses that it satisfies if true and those if false.
-#[derive(Drop)]
-pub struct Occurrences {
-    pub positive: [u128; PLACES],
-    pub negative: [u128; PLACES],
+// The clauses that a variable satisfies if it is true, and those if it is false.
+#[derive(Clone, Copy, Drop)]
+pub struct Occurrence {
+    pub positive: u128,
+    pub negative: u128,
 }
 
-// The clauses that a variable satisfies by this truth value.
-fn occurrence(clauses: &[Clause], so: bool, variable: u32) -> u128
+// What each variable satisfies, at the place before its number.
+#[derive(Drop)]
+pub struct Occurrences {
+    pub table: [Occurrence; PLACES],
+}
+
+// The clauses that a variable satisfies by this truth value: each clause adds its digit below those after it.
+fn clauses_with(clauses: &[Clause], so: bool, variable: u32) -> u128
     requires few { length clauses.now ≤ max_clauses }
     requires range { (1 ≤ variable) × (variable ≤ max_variables) }
     ensures { result ≡ occurrences so clauses.now variable }
 {
-    let mut found = 0;
-    for i in (0..clauses.len()).rev() {
-        let bit = (clauses[i].satisfiers(so) >> (variable - 1)) % 2;
-        found = 2 * found + bit as u128;
-    }
-    found
-}
-
-// What each variable satisfies by this truth value.
-fn table_of(clauses: &[Clause], so: bool) -> [u128; PLACES]
-    requires { length clauses.now ≤ max_clauses }
-    ensures { Tabled so clauses.now result }
-{
-    let mut table = [0; PLACES];
-    for k in 0..PLACES {
-        table[k] = occurrence(clauses, so, k as u32 + 1);
-    }
-    table
+    let Some((clause, others)) = clauses.split_first() else {
+        return 0;
+    };
+    let digit = (clause.satisfiers(so) >> (variable - 1)) % 2;
+    digit as u128 + 2 * clauses_with(others, so, variable)
 }
 
 impl Occurrences {
     pub fn of(matrix: &Matrix) -> Occurrences
-        ensures positive { Tabled true (take matrix.now.count matrix.now.clauses) result.positive }
-        ensures negative { Tabled false (take matrix.now.count matrix.now.clauses) result.negative }
+        ensures { Tabled (clauses_in matrix.now) result.table }
     {
         let clauses = matrix.list();
-        Occurrences {
-            positive: table_of(clauses, true),
-            negative: table_of(clauses, false),
+        let none = Occurrence {
+            positive: 0,
+            negative: 0,
+        };
+        let mut table = [none; PLACES];
+        for (k, place) in table.iter_mut().enumerate() {
+            let variable = k as u32 + 1;
+            *place = Occurrence {
+                positive: clauses_with(clauses, true, variable),
+                negative: clauses_with(clauses, false, variable),
+            };
         }
+        Occurrences { table }
     }
 }

@@ -1,5 +1,6 @@
 ghost use Rattle.std.specs.Prelude.{◌≡◌, ◌≤◌, true, map, length, nat_le};
 ghost use Rattle.std.specs.Option.{option_map};
+ghost use Rattle.std.specs.List.{list_all, sum_by};
 ghost use Rattle.truth.specs.Limits.{max_blocks, max_variables, max_decided};
 ghost use Rattle.truth.specs.Syntax.{bound_in};
 ghost use Rattle.truth.specs.WellFormed.{all, ranged};
@@ -20,13 +21,9 @@ use truth::verdict::Verdict;
 // How many variables some blocks bind.
 fn count_bound(blocks: &[Block]) -> usize
     requires { length blocks.now ≤ max_blocks }
-    ensures { result ≡ length (bound_in (map block_of blocks.now)) }
+    ensures { result ≡ sum_by (λ b. length b.variables.items) blocks.now }
 {
-    let mut count = 0;
-    for block in blocks {
-        count += block.width;
-    }
-    count
+    blocks.iter().map(|block| block.variables.len()).sum()
 }
 
 // Whether some blocks bind so few variables that every assignment can be tried.
@@ -37,16 +34,11 @@ fn binds_few(blocks: &[Block]) -> bool
     count_bound(blocks) <= MAX_DECIDED
 }
 
-// Whether each clause has a true literal, where the variables in one mask are true and those in the other false.
-fn satisfies(trues: u64, falses: u64, clauses: &[Clause]) -> bool
-    ensures { result ≡ all (λ c. satisfied c trues falses) clauses.now }
+// Whether an assignment makes a literal of each clause true.
+fn satisfies(by: Assignment, clauses: &[Clause]) -> bool
+    ensures { result ≡ list_all (λ c. satisfied c by.trues by.falses) clauses.now }
 {
-    for clause in clauses {
-        if !clause.satisfied(Assignment { trues, falses }) {
-            return false;
-        }
-    }
-    true
+    clauses.iter().all(|clause| clause.satisfied(by))
 }
 
 // Decides what is left: variables under one quantifier, and then the blocks inside them.
@@ -55,32 +47,34 @@ fn decide_from(
     quantifier: Quantifier,
     variables: &[u32],
     blocks: &[Block],
-    trues: u64,
-    falses: u64,
+    by: Assignment,
 ) -> bool
-    requires outer { all (ranged max_variables) variables.now ≡ true }
-    requires inner { all (ranged max_variables) (bound_in (map block_of blocks.now)) ≡ true }
-    ensures { result ≡ plain clauses.now (bind_before quantifier variables.now (single (map block_of blocks.now))) trues falses }
+    requires { all (ranged max_variables) variables.now ≡ true }
+    ensures { result ≡ plain clauses.now (bind_before quantifier variables.now (single (map block_of blocks.now))) by.trues by.falses }
 {
     let Some((first, others)) = variables.split_first() else {
         let Some((block, inner)) = blocks.split_first() else {
-            return satisfies(trues, falses, clauses);
+            return satisfies(by, clauses);
         };
-        return decide_from(
-            clauses,
-            block.quantifier,
-            block.bound(),
-            inner,
-            trues,
-            falses,
-        );
+        return decide_from(clauses, block.quantifier, block.bound(), inner, by);
     };
+    let Assignment { trues, falses } = by;
     let bit = mask(*first);
-    let low = decide_from(clauses, quantifier, others, blocks, trues, falses | bit);
+    let by_false = Assignment {
+        trues,
+        falses: falses | bit,
+    };
+    let low = decide_from(clauses, quantifier, others, blocks, by_false);
     match (quantifier, low) {
         (Quantifier::Existential, true) => true,
         (Quantifier::Universal, false) => false,
-        _ => decide_from(clauses, quantifier, others, blocks, trues | bit, falses),
+        _ => {
+            let by_true = Assignment {
+                trues: trues | bit,
+                falses,
+            };
+            decide_from(clauses, quantifier, others, blocks, by_true)
+        }
     }
 }
 
@@ -96,6 +90,15 @@ pub fn decide(formula: &Formula) -> Option<Verdict>
         return None;
     }
     let clauses = formula.matrix.list();
-    let so = decide_from(clauses, Quantifier::Existential, &[], blocks, 0, 0);
+    let so = decide_from(
+        clauses,
+        Quantifier::Existential,
+        &[],
+        blocks,
+        Assignment {
+            trues: 0,
+            falses: 0,
+        },
+    );
     Some(Verdict::from(so))
 }

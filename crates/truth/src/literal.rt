@@ -33,7 +33,7 @@ pub struct Literal {
 }
 
 // A set of literals: variable v is bit v − 1 of the masks.
-#[derive(Clone, Copy, PartialEq, Eq, Debug, Drop)]
+#[derive(Clone, Copy, PartialEq, Eq, Default, Debug, Drop)]
 pub struct Clause {
     pub positive: u64,
     pub negative: u64,

@@ -34,30 +34,21 @@ impl Formula {
     pub fn quantifier(&self, level: usize) -> Option<Quantifier>
         ensures { result ≡ option_map (λ b. b.quantifier) (numbered (qbf_of self.now).prefix level) }
     {
-        match self.prefix.block(level) {
-            Some(block) => Some(block.quantifier),
-            None => None,
-        }
+        Some(self.prefix.block(level)?.quantifier)
     }
 
     // How many variables the block at a level has.
     pub fn width(&self, level: usize) -> Option<usize>
         ensures { result ≡ option_map (λ b. length b.variables) (numbered (qbf_of self.now).prefix level) }
     {
-        match self.prefix.block(level) {
-            Some(block) => Some(block.width),
-            None => None,
-        }
+        Some(self.prefix.block(level)?.variables.len())
     }
 
     // The k-th variable of the block at a level, k from 0.
     pub fn variable(&self, level: usize, k: usize) -> Option<u32>
         ensures { result ≡ and_then (numbered (qbf_of self.now).prefix level) (λ b. slice_get b.variables k) }
     {
-        let Some(block) = self.prefix.block(level) else {
-            return None;
-        };
-        block.variable(k)
+        self.prefix.block(level)?.variable(k)
     }
 
     // The clause with this number.

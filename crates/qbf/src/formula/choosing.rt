@@ -1,26 +1,27 @@
-ghost use Rattle.std.specs.Prelude.{◌≡◌, ◌≤◌, true, length};
-ghost use Rattle.truth.specs.Limits.{max_variables, max_width};
-ghost use Rattle.truth.specs.WellFormed.{all, ranged};
+ghost use Rattle.std.specs.Prelude.{◌≡◌};
 ghost use Rattle.candidates.specs.Held.{choices_in};
 ghost use Rattle.qbf.specs.Held.{qbf_of};
 ghost use Rattle.qbf.specs.Offered.{offered, next_candidate};
 
+use crate::block::Block;
 use crate::candidate::Candidate;
 use crate::formula::Formula;
 use crate::formula::positions::satisfied_by;
 use candidates::choices::Choices;
 
 // What each of some variables satisfies of a set.
-fn choices_of(formula: &Formula, variables: &[u32], set: u128) -> Choices
-    requires range { all (ranged max_variables) variables.now ≡ true }
-    requires narrow { length variables.now ≤ max_width }
-    ensures { choices_in result ≡ offered (qbf_of formula.now).matrix set variables.now }
+fn choices_of(formula: &Formula, block: &Block, set: u128) -> Choices
+    ensures { choices_in result ≡ offered (qbf_of formula.now).matrix set block.now.variables.items }
 {
     let mut choices = Choices::new();
-    for i in (0..variables.len()).rev() {
-        let low = set & satisfied_by(formula, variables[i], false);
-        let high = set & satisfied_by(formula, variables[i], true);
-        let _ = choices.put_first(low, high);
+    let mut left = block.bound();
+    while let Some((variable, before)) = left.split_last() {
+        let low = set & satisfied_by(formula, *variable, false);
+        let high = set & satisfied_by(formula, *variable, true);
+        let Ok(()) = choices.put_first(low, high) else {
+            unreachable()
+        };
+        left = before;
     }
     choices
 }
@@ -32,13 +33,8 @@ impl Formula {
     pub fn next_candidate(&self, level: usize, set: u128, from: u16) -> Option<Candidate>
         ensures { result ≡ next_candidate (qbf_of self.now) level set from }
     {
-        let Some(block) = self.prefix.block(level) else {
-            return None;
-        };
-        let choices = choices_of(self, block.bound(), set);
-        let Some(found) = choices.next(block.quantifier, from) else {
-            return None;
-        };
+        let block = self.prefix.block(level)?;
+        let found = choices_of(self, block, set).next(block.quantifier, from)?;
         Some(Candidate {
             value: found.value,
             rest: (set & self.whole()) - found.hits,

@@ -1,9 +1,9 @@
 ghost use Rattle.std.specs.Prelude.{◌≡◌, ◌≤◌, true, map, length, if◌then◌else◌, bit_or};
 ghost use Rattle.std.specs.Option.{option_map, ok_or};
 ghost use Rattle.faults.specs.declared.cause.Cause.TheVariants.{BadPosition};
-ghost use Rattle.truth.specs.Limits.{max_variables, max_width, max_clauses};
+ghost use Rattle.truth.specs.Limits.{max_variables, max_clauses};
 ghost use Rattle.truth.specs.Syntax.{mask_of, bound_in};
-ghost use Rattle.truth.specs.WellFormed.{all, ranged};
+ghost use Rattle.truth.specs.WellFormed.{ranged};
 ghost use Rattle.truth.specs.Places.{numbered};
 ghost use Rattle.truth.specs.Truth.{satisfied, rest, rest_under, whole, root_of};
 ghost use Rattle.truth.specs.Occurrences.{occurrences, settled};
@@ -14,6 +14,7 @@ ghost use Rattle.qbf.specs.Held.{qbf_of};
 
 use crate::block::Block;
 use crate::formula::Formula;
+use crate::occurrences::Occurrence;
 use faults::cause::Cause;
 use faults::fault::Fault;
 use truth::assignment::Assignment;
@@ -26,20 +27,15 @@ pub(crate) fn satisfied_by(formula: &Formula, variable: u32, so: bool) -> u128
     requires { ranged max_variables variable ≡ true }
     ensures { result ≡ occurrences so (qbf_of formula.now).matrix variable }
 {
-    let place = variable as usize - 1;
-    if so {
-        formula.occurrences.positive[place]
-    } else {
-        formula.occurrences.negative[place]
-    }
+    let Occurrence { positive, negative } = formula.occurrences.table[variable as usize - 1];
+    if so { positive } else { negative }
 }
 
-// The clauses that a value of some variables satisfies.
-fn settle(formula: &Formula, variables: &[u32], value: u16) -> u128
-    requires range { all (ranged max_variables) variables.now ≡ true }
-    requires narrow { length variables.now ≤ max_width }
-    ensures { result ≡ settled (qbf_of formula.now).matrix variables.now value }
+// The clauses that a value of a block satisfies.
+fn settle(formula: &Formula, block: &Block, value: u16) -> u128
+    ensures { result ≡ settled (qbf_of formula.now).matrix block.now.variables.items value }
 {
+    let variables = block.bound();
     let mut all = 0;
     for (i, x) in variables.iter().enumerate() {
         let digit = (value >> (variables.len() - 1 - i)) % 2;
@@ -49,34 +45,28 @@ fn settle(formula: &Formula, variables: &[u32], value: u16) -> u128
 }
 
 // 1 for a clause that an assignment leaves unsatisfied, and else 0.
-fn left_digit(clause: Clause, trues: u64, falses: u64) -> u128
-    ensures { result ≡ (if satisfied clause trues falses then 0 else 1) }
+fn left_digit(clause: &Clause, by: Assignment) -> u128
+    ensures { result ≡ (if satisfied clause.now by.trues by.falses then 0 else 1) }
 {
-    if clause.satisfied(Assignment { trues, falses }) {
-        0
-    } else {
-        1
-    }
+    if clause.satisfied(by) { 0 } else { 1 }
 }
 
-// The clauses that an assignment leaves of all.
-fn unsatisfied(clauses: &[Clause], trues: u64, falses: u64) -> u128
+// The clauses that an assignment leaves of all: each clause adds its digit below those after it.
+fn unsatisfied(clauses: &[Clause], by: Assignment) -> u128
     requires { length clauses.now ≤ max_clauses }
-    ensures { result ≡ rest clauses.now trues falses (whole clauses.now) }
+    ensures { result ≡ rest clauses.now by.trues by.falses (whole clauses.now) }
 {
-    let mut left = 0;
-    for i in (0..clauses.len()).rev() {
-        let digit = left_digit(clauses[i], trues, falses);
-        left = 2 * left + digit;
-    }
-    left
+    let Some((clause, others)) = clauses.split_first() else {
+        return 0;
+    };
+    left_digit(clause, by) + 2 * unsatisfied(others, by)
 }
 
-// The mask of some variables, and of those in another mask.
-fn mask_with(variables: &[u32], others: u64) -> u64
-    requires { all (ranged max_variables) variables.now ≡ true }
-    ensures { result ≡ bit_or others (mask_of variables.now) }
+// The mask of a block's variables, and of those in another mask.
+fn mask_with(block: &Block, others: u64) -> u64
+    ensures { result ≡ bit_or others (mask_of block.now.variables.items) }
 {
+    let variables = block.bound();
     let mut all = others;
     for x in variables {
         all |= mask(*x);
@@ -86,12 +76,11 @@ fn mask_with(variables: &[u32], others: u64) -> u64
 
 // The mask of the variables that some blocks bind.
 fn mask_of(blocks: &[Block]) -> u64
-    requires { all (ranged max_variables) (bound_in (map block_of blocks.now)) ≡ true }
     ensures { result ≡ mask_of (bound_in (map block_of blocks.now)) }
 {
     let mut all = 0;
     for block in blocks {
-        all = mask_with(block.bound(), all);
+        all = mask_with(block, all);
     }
     all
 }
@@ -101,11 +90,9 @@ impl Formula {
     pub(crate) fn whole(&self) -> u128
         ensures { result ≡ whole (qbf_of self.now).matrix }
     {
-        let count = self.matrix.len();
-        if count < MAX_CLAUSES {
-            (1 << count) - 1
-        } else {
-            u128::MAX
+        match self.matrix.len() {
+            MAX_CLAUSES => u128::MAX,
+            count => (1 << count) - 1,
         }
     }
 
@@ -123,10 +110,8 @@ impl Formula {
     pub fn rest(&self, level: usize, value: u16, set: u128) -> Option<u128>
         ensures { result ≡ option_map (λ b. rest_under (qbf_of self.now).matrix b value set) (numbered (qbf_of self.now).prefix level) }
     {
-        let Some(block) = self.prefix.block(level) else {
-            return None;
-        };
-        Some(set & (self.whole() - settle(self, block.bound(), value)))
+        let block = self.prefix.block(level)?;
+        Some(set & (self.whole() - settle(self, block, value)))
     }
 
     // The set left once the first blocks are decided: their variables in the word are true, the others false.
@@ -136,12 +121,16 @@ impl Formula {
     {
         let blocks = self.prefix.list();
         if decided > blocks.len() {
-            return Err(Fault::new(Cause::BadPosition, 0));
+            return Err(Fault::from(Cause::BadPosition));
         }
         let variables = mask_of(&blocks[0..decided]);
         if word & variables != word {
-            return Err(Fault::new(Cause::BadPosition, 0));
+            return Err(Fault::from(Cause::BadPosition));
         }
-        Ok(unsatisfied(self.matrix.list(), word, variables - word))
+        let by = Assignment {
+            trues: word,
+            falses: variables - word,
+        };
+        Ok(unsatisfied(self.matrix.list(), by))
     }
 }

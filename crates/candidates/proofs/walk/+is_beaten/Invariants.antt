@@ -2,4 +2,4 @@ use Rattle.std.proofs.Common.{length}
 use Rattle.candidates.proofs.walk.+is_beaten.Given as goal
 
 abbrev pub decreases-is_beaten : goal.decreases-is_beaten
-decreases-is_beaten l = length l.choices.now
+decreases-is_beaten l = length l.left.now

@@ -1,4 +1,4 @@
-use Rattle.std.proofs.Common.{rules}
+use Rattle.std.proofs.Common.{Err, sym, ap, ◌∙◌, rules}
 use Rattle.formula_text.proofs.LiteralSteps.{widened_more, block_negated, block_empty, block_whole}
 use Rattle.formula_text.proofs.gather.gather_numbers.Goals as goal
 
@@ -8,8 +8,10 @@ returns-then-literal c = search (rules, block_negated)
 pub loop-literal-preserved : goal.loop-literal-preserved
 loop-literal-preserved c = search (rules, widened_more)
 
-pub returns-then-numbers-eq0 : goal.returns-then-numbers-eq0
-returns-then-numbers-eq0 c = search (rules, block_empty)
+pub returns-then-has_none : goal.returns-then-has_none
+returns-then-has_none c =
+    let same = c.fault-then-has_none.ensures ∙ c.in_ok-literal.ensures.fault ∙ c.loop-literal.invariant.1 in
+    ap Err same ∙ block_empty _ _ _ _ c.loop-literal.invariant.0 (rw c.in_default.is at c.in_ok-literal.ensures.yields) (sym c.if-has_none.ensures)
 
 pub returns : goal.returns
-returns c = search (rules, block_whole)
+returns c = block_whole _ _ _ _ c.loop-literal.invariant.0 (rw c.in_default.is at c.in_ok-literal.ensures.yields) (sym c.if-has_none.ensures)

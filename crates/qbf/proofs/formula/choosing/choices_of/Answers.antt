@@ -1,27 +1,40 @@
-use Rattle.std.proofs.Common.{◌-◌, ◌<◌, length, ap, ◌∙◌, arith, rules}
+use Rattle.std.proofs.Common.{◌≡◌, true, ltb, ◌∷◌, length, sym, ap, ◌∙◌, ap₂}
 use lib.Bits.{bit_and}
-use Rattle.truth.specs.Limits.{max_variables}
+use Rattle.truth.specs.Limits.{max_variables, max_width}
 use Rattle.truth.specs.WellFormed.{ranged}
+use Rattle.candidates.specs.Held.{choices_in}
+use Rattle.candidates.specs.Hits.{ahead}
 use Rattle.qbf.specs.Held.{qbf_of}
-use Rattle.qbf.proofs.Positioning.{all-at}
-use Rattle.qbf.proofs.Offering.{offered_end, offered_more}
+use Rattle.qbf.specs.Offered.{offered}
+use Rattle.qbf.proofs.Offering.{parted, last_passes, room_left}
 use Rattle.qbf.proofs.formula.choosing.choices_of.Goals as goal
-
-pub loop-i-init : goal.loop-i-init
-loop-i-init c = c.new-choices.ensures ∙ offered_end (qbf_of c.args.formula.now).matrix c.args.set c.args.variables.now _ (omega arith)
 
 pub satisfied_by-requires : goal.satisfied_by-requires
 satisfied_by-requires c =
-    let here : c.loop-i.i - 1 < length c.args.variables.now = search rules in
-    all-at (ranged max_variables) c.args.variables.now (c.loop-i.i - 1) 0 here c.requires.range
+    let h = c.loop-variable.invariant in
+    last_passes _ _ c.in-Some.before.now h.0 c.in-Some.variable.now h.1 c.in-Some.ensures.cases.0 (ranged max_variables) c.args.block.now.range
 
-pub satisfied_by-requires-in-loop-i : goal.satisfied_by-requires-in-loop-i
-satisfied_by-requires-in-loop-i c =
-    let here : c.loop-i.i - 1 < length c.args.variables.now = search rules in
-    all-at (ranged max_variables) c.args.variables.now (c.loop-i.i - 1) 0 here c.requires.range
+pub satisfied_by-requires-in-Some : goal.satisfied_by-requires-in-Some
+satisfied_by-requires-in-Some c =
+    let h = c.loop-variable.invariant in
+    last_passes _ _ c.in-Some.before.now h.0 c.in-Some.variable.now h.1 c.in-Some.ensures.cases.0 (ranged max_variables) c.args.block.now.range
 
-pub loop-i-preserved : goal.loop-i-preserved
-loop-i-preserved c =
-    offered_more (qbf_of c.args.formula.now).matrix c.args.set c.args.variables.now c.loop-i.i _ _ c.put_first.result
-    c.loop-i.invariant c.loop-i-test.true c.loop-i.auto.i c.requires.narrow _ _
-    c.put_first.ensures.room (ap (bit_and c.args.set) c.satisfied_by.ensures) (ap (bit_and c.args.set) c.satisfied_by-in-loop-i.ensures) c.put_first.ensures.held
+pub unreachable-requires : goal.unreachable-requires
+unreachable-requires c =
+    let h = c.loop-variable.invariant in
+    let room = room_left _ _ c.in-Some.before.now h.0 c.in-Some.variable.now h.1 c.in-Some.ensures.cases.0 (qbf_of c.args.formula.now).matrix c.args.set c.args.block.now.narrow in
+    let here : ltb (length (choices_in c.loop-variable.choices)) max_width ≡ true = ap (λ hs. ltb (length hs) max_width) h.2 ∙ room in
+    let none = c.in_default-put_first.ensures.room in
+    cc
+
+pub loop-variable-preserved : goal.loop-variable-preserved
+loop-variable-preserved c =
+    let h = c.loop-variable.invariant in
+    let cs = (qbf_of c.args.formula.now).matrix in
+    let s = c.args.set in (
+      c.in-Some.variable.now ∷ h.0,
+      parted _ _ c.in-Some.before.now h.0 c.in-Some.variable.now h.1 c.in-Some.ensures.cases.0,
+      c.in-Ok.ensures.held
+          ∙ ap (λ hs. ahead (bit_and s c.satisfied_by.result) (bit_and s c.satisfied_by-in-Some.result) hs ∷ hs) h.2
+          ∙ ap₂ (λ a b. ahead (bit_and s a) (bit_and s b) (offered cs s h.0) ∷ offered cs s h.0) c.satisfied_by.ensures c.satisfied_by-in-Some.ensures,
+    )

@@ -1,7 +1,6 @@
--- The fronts of tables: the blocks and clauses that are held.
-use Rattle.std.proofs.Common.{◌≡◌, ℕ, zero, suc, ◌+◌, ◌-◌, ◌<◌, ◌≤◌, List, [], ◌∷◌, ◌++◌, map, length, take, set, refl, false, Some, None, ap, ◌∙◌, arith}
+-- The last of some blocks.
+use Rattle.std.proofs.Common.{◌≡◌, ℕ, zero, suc, ◌-◌, List, [], ◌∷◌, map, length, refl, false, Some, None, ap, arith}
 use Rattle.std.proofs.lemmas.Option.{slice_get-get_or}
-use Rattle.std.proofs.lemmas.List.{take_more_set, map_push, length-map, length-take-le}
 use Rattle.qbf.specs.declared.block.Block.{Block as StoredBlock}
 use Rattle.std.specs.List.{slice_get}
 use denote.Enum.Bare.{sameb}
@@ -9,13 +8,7 @@ use Rattle.truth.specs.declared.literal.Quantifier.{Quantifier}
 use Rattle.truth.specs.declared.literal.Quantifier.TheVariants.{Existential, Universal}
 use Rattle.truth.specs.contracts.literal.Quantifier.{the_type}
 use Rattle.truth.specs.WellFormed.{same, repeats}
-use Rattle.qbf.specs.declared.prefix.Prefix.{Prefix}
-use Rattle.qbf.specs.declared.matrix.Matrix.{Matrix}
-use Rattle.qbf.specs.Stored.{block_of, blocks_of}
-use Rattle.qbf.specs.Held.{blocks_in, clauses_in}
-
-pub blocks_push : (bs : List StoredBlock) (n : ℕ) (b : StoredBlock) → n < length bs → blocks_of (n + 1) (set bs n b) ≡ blocks_of n bs ++ (block_of b ∷ [])
-blocks_push bs n b h = ap (map block_of) (take_more_set bs n b h) ∙ map_push block_of (take n bs) b
+use Rattle.qbf.specs.Stored.{block_of}
 
 -- The derived equality of quantifiers.
 pub same_derived : (q p : Quantifier) → sameb the_type q p ≡ same q p
@@ -39,9 +32,3 @@ repeats_last q (x ∷ xs) b e = repeats-at q (x ∷ xs) (length (x ∷ xs) - 1) 
 pub repeats_none : (q : Quantifier) (bs : List StoredBlock) → slice_get bs (length bs - 1) ≡ None → repeats q (map block_of bs) ≡ false
 repeats_none q [] e = refl
 repeats_none q (x ∷ xs) e = let s = slice_get-get_or (x ∷ xs) (length (x ∷ xs) - 1) x (omega arith) in cc
-
-pub clauses_count : (m : Matrix) → length (clauses_in m) ≡ m.count
-clauses_count m = length-take-le m.count m.clauses (omega (arith, m.few, m.table))
-
-pub blocks_count : (p : Prefix) → length (blocks_in p) ≡ p.count
-blocks_count p = length-map (take p.count p.blocks) block_of ∙ length-take-le p.count p.blocks (omega (arith, p.few, p.table))
