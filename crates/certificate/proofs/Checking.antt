@@ -22,11 +22,6 @@ use Rattle.std.specs.List.{find}
 use Rattle.certificate.proofs.Steps.{first_some}
 use Rattle.certificate.proofs.FromLevel.{from_next, told_none, told_some, is_none_there, is_some_there}
 
-pub few_levels : (f : Formula) → length (qbf_of f).prefix ≤ max_blocks
-few_levels f =
-    let bs = f.prefix.blocks in
-    omega (arith, length-map (take f.prefix.count bs) block_of, length-take f.prefix.count bs, f.prefix.few)
-
 -- The verdict on what is so is a given one just where that one agrees with it.
 pub agrees_by : (made given : Verdict) (so r : Bool) → is_true made ≡ so → r ≡ sameb the_type made given → r ≡ agrees (is_true given) so
 agrees_by True True so r h e = cc

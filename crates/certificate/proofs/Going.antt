@@ -21,7 +21,7 @@ use Rattle.certificate.specs.Plays.{lends, moved, Played, Played.ended, Played.w
 use Rattle.certificate.specs.Games.{formula_of, verdict_of, entries_of, root_at, blocks_at, onward}
 use Rattle.certificate.specs.Views.{scene_of, At}
 use Rattle.certificate.proofs.FromLevel.{next_blocks, level_there}
-use Rattle.certificate.proofs.Checking.{few_levels}
+use Rattle.qbf.proofs.Sizes.{few_blocks}
 
 -- One step of a play, by what is due at its position.
 module _ (f : Qbf) (v : Bool) (es : List Entry) (p : Position) (o : Outcome) (vs : List ℕ) where
@@ -137,7 +137,7 @@ height-at (Over t) a p at = omega arith
 -- A level with a block is within the limit, and a move leads to the next.
 level_left : (a : Accepted) (p : Position) (w : ℕ) (b : Block) (bs : List Block) → blocks_at a p ≡ b ∷ bs → (p.level ≤ max_blocks) × ((onward a p w).level ≡ p.level + 1)
 level_left a p w b bs d =
-    let few = few_levels a.formula.now in
+    let few = few_blocks a.formula.now in
     let there = level_there (formula_of a) b bs p.level d in
     (omega arith, ap (λ z. (moved (formula_of a).matrix z w p).level) d)
 

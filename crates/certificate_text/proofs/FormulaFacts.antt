@@ -10,17 +10,8 @@ use Rattle.truth.specs.WellFormed.{WellFormed, all, wide}
 use Rattle.qbf.specs.declared.formula.Formula.{Formula}
 use Rattle.qbf.specs.Stored.{block_of}
 use Rattle.qbf.specs.Held.{qbf_of}
+use Rattle.qbf.proofs.Sizes.{few_clauses, few_blocks}
 use Rattle.certificate_text.specs.CertificateText.{width_at}
-
-pub few_clauses : (f : Formula) → length (qbf_of f).matrix ≤ max_clauses
-few_clauses f =
-    let m = f.matrix in
-    omega (arith, length-take-le m.count m.clauses (omega (arith, m.few, m.table)), m.few)
-
-pub few_blocks : (f : Formula) → length (qbf_of f).prefix ≤ max_blocks
-few_blocks f =
-    let p = f.prefix in
-    omega (arith, length-map (take p.count p.blocks) block_of, length-take-le p.count p.blocks (omega (arith, p.few, p.table)), p.few)
 
 abbrev width : List Block → ℕ → Option ℕ
 width bs level = option_map (λ b. length b.variables) (numbered bs level)

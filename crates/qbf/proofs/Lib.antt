@@ -5,3 +5,5 @@ pub mod Numbered
 pub mod Refereeing
 pub mod Positioning
 pub mod Offering
+pub mod Sizes
+pub mod Parts

@@ -25,6 +25,7 @@ use Rattle.candidates.specs.declared.choice.Hit.{Hit}
 use Rattle.candidates.specs.Hits.{hit, better, beaten, bests, ahead}
 use Rattle.qbf.specs.declared.candidate.Candidate.{Candidate}
 use Rattle.text.specs.Taken.{and_then}
+use Rattle.qbf.proofs.Parts.{parted}
 use Rattle.qbf.specs.Offered.{offered, next_candidate}
 
 offered-length : (cs : List Clause) (s : ℕ) (xs : List ℕ) → length (offered cs s xs) ≡ length xs
@@ -143,13 +144,10 @@ module _ (f : Qbf) (level s from : ℕ) (b : Block) (is : Some b ≡ numbered f.
 
 -- The loop that gathers choices, from the last variable to the first: one more of those left.
 module _ (vs left before behind : List ℕ) (x : ℕ) (is : vs ≡ left ++ behind) (last : left ≡ before ++ (x ∷ [])) where
-  pub parted : vs ≡ before ++ (x ∷ behind)
-  parted = is ∙ ap (λ ys. ys ++ behind) last ∙ append_assoc before (x ∷ []) behind
-
   pub last_passes : (p : ℕ → Bool) → all p vs ≡ true → p x ≡ true
   last_passes p h =
-      let later = and_parts (all p before) (all p (x ∷ behind)) (sym (ap (all p) parted ∙ all_append p before (x ∷ behind)) ∙ h) in
+      let later = and_parts (all p before) (all p (x ∷ behind)) (sym (ap (all p) (parted vs left before behind x is last) ∙ all_append p before (x ∷ behind)) ∙ h) in
       (and_parts (p x) (all p behind) later.1).0
 
   pub room_left : (cs : List Clause) (s : ℕ) → length vs ≤ max_width → ltb (length (offered cs s behind)) max_width ≡ true
-  room_left cs s narrow = lt-ltb _ _ (omega (arith, ap length parted, length-append before (x ∷ behind), offered-length cs s behind))
+  room_left cs s narrow = lt-ltb _ _ (omega (arith, ap length (parted vs left before behind x is last), length-append before (x ∷ behind), offered-length cs s behind))

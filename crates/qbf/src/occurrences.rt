@@ -29,11 +29,14 @@ fn clauses_with(clauses: &[Clause], so: bool, variable: u32) -> u128
     requires range { (1 ≤ variable) × (variable ≤ max_variables) }
     ensures { result ≡ occurrences so clauses.now variable }
 {
-    let Some((clause, others)) = clauses.split_first() else {
-        return 0;
-    };
-    let digit = (clause.satisfiers(so) >> (variable - 1)) % 2;
-    digit as u128 + 2 * clauses_with(others, so, variable)
+    let mut found = 0;
+    let mut left = clauses;
+    while let Some((clause, before)) = left.split_last() {
+        let digit = (clause.satisfiers(so) >> (variable - 1)) % 2;
+        found = digit as u128 + 2 * found;
+        left = before;
+    }
+    found
 }
 
 impl Occurrences {

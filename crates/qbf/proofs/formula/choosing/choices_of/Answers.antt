@@ -6,7 +6,8 @@ use Rattle.candidates.specs.Held.{choices_in}
 use Rattle.candidates.specs.Hits.{ahead}
 use Rattle.qbf.specs.Held.{qbf_of}
 use Rattle.qbf.specs.Offered.{offered}
-use Rattle.qbf.proofs.Offering.{parted, last_passes, room_left}
+use Rattle.qbf.proofs.Offering.{last_passes, room_left}
+use Rattle.qbf.proofs.Parts.{parted}
 use Rattle.qbf.proofs.formula.choosing.choices_of.Goals as goal
 
 pub satisfied_by-requires : goal.satisfied_by-requires
