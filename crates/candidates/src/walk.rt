@@ -65,21 +65,31 @@ impl Hit {
     }
 }
 
-// Whether some value that goes on so, through the variables left, beats another.
-fn is_beaten(other: Hit, quantifier: Quantifier, left: &[Choice], so_far: Hit) -> bool
-    requires reaches { reaching left.now ≡ true }
-    requires narrow { length left.now ≤ max_width }
-    requires small { so_far.value < 2 ^ (max_width - length left.now) }
-    ensures { result ≡ some_hit (better quantifier other.hits other.value) left.now so_far.hits so_far.value }
-{
-    let Some((choice, later)) = left.split_first() else {
-        return so_far.beats(quantifier, other);
-    };
-    if !can_reach(quantifier, other.hits, so_far.hits, choice.reach) {
-        return false;
+// A value with its hits, for others to beat.
+#[derive(Drop)]
+struct Rival {
+    quantifier: Quantifier,
+    hit: Hit,
+}
+
+impl Rival {
+    // Whether some value that goes on so, through the variables left, beats it. The hits and the value so far come
+    // apart: as one `Hit` this walk, the inmost, takes a third more instructions.
+    fn is_beaten(&self, left: &[Choice], hits: u128, value: u16) -> bool
+        requires reaches { reaching left.now ≡ true }
+        requires narrow { length left.now ≤ max_width }
+        requires small { value < 2 ^ (max_width - length left.now) }
+        ensures { result ≡ some_hit (better self.now.quantifier self.now.hit.hits self.now.hit.value) left.now hits value }
+    {
+        let Some((choice, later)) = left.split_first() else {
+            return Hit { value, hits }.beats(self.quantifier, self.hit);
+        };
+        if !can_reach(self.quantifier, self.hit.hits, hits, choice.reach) {
+            return false;
+        }
+        self.is_beaten(later, hits | choice.low, 2 * value)
+            || self.is_beaten(later, hits | choice.high, 2 * value + 1)
     }
-    is_beaten(other, quantifier, later, so_far.low(choice))
-        || is_beaten(other, quantifier, later, so_far.high(choice))
 }
 
 // The search for the lowest value that is not below `from` and is not beaten.
@@ -101,9 +111,11 @@ impl<'a> Search<'a> {
         ensures { result ≡ first_hit (good self.now.quantifier self.now.all.now self.now.from) left.now so_far.hits so_far.value }
     {
         let Some((choice, later)) = left.split_first() else {
-            if so_far.value < self.from
-                || is_beaten(so_far, self.quantifier, self.all, Hit::none())
-            {
+            let rival = Rival {
+                quantifier: self.quantifier,
+                hit: so_far,
+            };
+            if so_far.value < self.from || rival.is_beaten(self.all, 0, 0) {
                 return None;
             }
             return Some(so_far);
