@@ -15,7 +15,8 @@ use Rattle.qbf.specs.Held.{qbf_of}
 use Rattle.certificate_text.specs.CertificateText.{clauses_from, listed_numbers, set_text, reply_text, width_at, spaced, entry_text, claim_text, entries_text, certificate_text}
 use Rattle.certificate_text.specs.Listing.{max_listed}
 use Rattle.certificate_text.specs.Writing.{max_line}
-use Rattle.certificate_text.proofs.FormulaFacts.{few_blocks, few_clauses, width_at_low}
+use Rattle.qbf.proofs.Sizes.{few_clauses, few_blocks}
+use Rattle.certificate_text.proofs.FormulaFacts.{width_at_low}
 use Rattle.certificate_text.proofs.Placed.{length-binary}
 
 decimal_short : (n : ℕ) → n < 2 ^ 32 → length (decimal n) ≤ 10
