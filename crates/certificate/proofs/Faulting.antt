@@ -1,8 +1,7 @@
 -- The first entry that is not supported, and what it says of all.
-use Rattle.std.proofs.Common.{◌≡◌, ℕ, ◌+◌, ◌<◌, ◌≤◌, Bool, true, false, cond, List, [], ◌∷◌, length, get_or, drop, Some, None, Option, sym, refl, ap, ◌∙◌, inl, inr}
-use Rattle.std.proofs.lemmas.List.{at_drop_more, at_drop_all}
-use Rattle.std.proofs.lemmas.Bool.{cases_Bool, and_from, and_left, and_right, cond-true, cond-false}
-use Rattle.faults.specs.declared.cause.Cause.TheVariants.{EntryUnsupported}
+use Rattle.std.proofs.Common.{◌≡◌, ℕ, ◌+◌, ◌≤◌, Bool, true, List, [], ◌∷◌, length, drop, None, Option, sym, refl, ap, ◌∙◌, inl, inr}
+use Rattle.std.proofs.lemmas.List.{at_drop_all}
+use Rattle.std.proofs.lemmas.Bool.{cases_Bool, and_from, cond-true}
 use Rattle.faults.specs.declared.fault.Fault.{Fault}
 use Rattle.truth.specs.Syntax.{Qbf}
 use Rattle.truth.specs.WellFormed.{all}
@@ -18,15 +17,6 @@ no_entry = record { level = 0; set = 0; reply = NoReply }
 
 -- A loop that stops at the first entry that fails a test, at index i and line n.
 module _ (p : Entry → Bool) (es : List Entry) (i n : ℕ) (o : Option Fault) (same : first_failing p (drop i es) n ≡ o) where
-  failing_here : (d : Entry) → i < length es → cond (p (get_or es i d)) (first_failing p (drop (i + 1) es) (n + 1)) (Some (record { cause = EntryUnsupported; line = n })) ≡ o
-  failing_here d h = sym (at_drop_more (λ xs. first_failing p xs n) es i d h) ∙ same
-
-  pub failing_stop : (d : Entry) → i < length es → false ≡ p (get_or es i d) → Some (record { cause = EntryUnsupported; line = n }) ≡ o
-  failing_stop d h e = sym (cond-false (p (get_or es i d)) _ _ (sym e)) ∙ failing_here d h
-
-  pub failing_more : (d : Entry) (m : ℕ) → m ≡ n + 1 → i < length es → true ≡ p (get_or es i d) → first_failing p (drop (i + 1) es) m ≡ o
-  failing_more d m next h e = ap (first_failing p (drop (i + 1) es)) next ∙ sym (cond-true (p (get_or es i d)) _ _ (sym e)) ∙ failing_here d h
-
   pub failing_end : length es ≤ i → None ≡ o
   failing_end h = sym (at_drop_all (λ xs. first_failing p xs n) es i h) ∙ same
 
@@ -35,15 +25,7 @@ failing_none p [] n e = refl
 failing_none p (x ∷ es) n e =
     elim (cases_Bool (p x)) [ inl k ↦ and_from _ _ k (failing_none p es (n + 1) (rw k at e)) | inr k ↦ let z = rw k at e in cc ]
 
-failing_some : (p : Entry → Bool) (es : List Entry) (n : ℕ) (x : Fault) → Some x ≡ first_failing p es n → all p es ≡ false
-failing_some p [] n x e = cc
-failing_some p (y ∷ es) n x e =
-    elim (cases_Bool (p y)) [ inl k ↦ and_right (p y) _ (failing_some p es (n + 1) x (rw k at e)) | inr k ↦ and_left (p y) _ k ]
-
 module _ (f : Qbf) (v : Bool) (es : List Entry) (root : reached v es f.prefix 1 (root_of f v) ≡ true) where
-  pub refused_so : (x : Fault) → Some x ≡ first_failing (supported v f es) es 4 → (Some x ≡ fault_in f v es) × (false ≡ accepts f v es)
-  refused_so x e = (e ∙ sym (cond-true _ (first_failing (supported v f es) es 4) _ root), sym (and_right _ _ (failing_some (supported v f es) es 4 x e)))
-
   pub accepted_so : None ≡ first_failing (supported v f es) es 4 → (None ≡ fault_in f v es) × (accepts f v es ≡ true)
   accepted_so e = (e ∙ sym (cond-true _ (first_failing (supported v f es) es 4) _ root), and_from _ _ root (failing_none (supported v f es) es 4 e))
 
@@ -51,6 +33,3 @@ module _ (f : Qbf) (v : Bool) (es : List Entry) (root : reached v es f.prefix 1 
 module _ (f : Qbf) (v : Bool) (ds es : List Entry) (same : ds ≡ es) where
   pub root_reached : (r : ℕ) → r ≡ root_of f v → true ≡ reached v ds f.prefix 1 r → reached v es f.prefix 1 (root_of f v) ≡ true
   root_reached r e h = sym (h ∙ ap (reached v ds f.prefix 1) e ∙ ap (λ z. reached v z f.prefix 1 (root_of f v)) same)
-
-  pub supported-same : (b : Bool) (e : Entry) → b ≡ supported v f ds e → b ≡ supported v f es e
-  supported-same b e h = h ∙ ap (λ z. supported v f z e) same

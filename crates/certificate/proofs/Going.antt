@@ -71,9 +71,6 @@ Continues a p rest offers = (o : Outcome) → Goes a p rest o → Goes a (root_a
 abbrev pub Going : Accepted → Turn → List ℕ → List ℕ → Type 0
 Going a turn rest offers = (p : Position) × (At turn a p × Continues a p rest offers)
 
-pub go_start : (a : Accepted) (turn : Turn) (offers : List ℕ) → At turn a (root_at a) → Going a turn offers offers
-go_start a turn offers at = (root_at a, (at, λ o k. k))
-
 same_game : (a b : Accepted) (p q : Position) (rest offers : List ℕ) → b ≡ a → q ≡ p → Continues a p rest offers → Continues b q rest offers
 same_game a b p q rest offers e d k = subst (λ x. Continues x q rest offers) (sym e) (subst (λ x. Continues a x rest offers) (sym d) k)
 

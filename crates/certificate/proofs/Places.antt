@@ -1,7 +1,7 @@
 -- Where the entries of each level stand.
-use Rattle.std.proofs.Common.{◌≡◌, ℕ, ◌+◌, ◌-◌, ◌<◌, ◌≤◌, Bool, true, false, eqb, List, [], ◌∷◌, ◌++◌, length, get_or, take, drop, set, replicate, sym, refl, ap, ◌∙◌, subst, inl, inr, arith}
+use Rattle.std.proofs.Common.{◌≡◌, ℕ, ◌+◌, ◌-◌, ◌<◌, Bool, true, false, eqb, List, [], ◌∷◌, ◌++◌, length, get_or, take, drop, set, sym, refl, ap, ◌∙◌, subst, inl, inr, arith}
 use Rattle.std.specs.List.{find}
-use Rattle.std.proofs.lemmas.List.{take_more, take_all, drop_all, drop-append-le, length-take-le, get_or-set_same, get_or-set_other, get_or-replicate, take-append-drop, drop-drop}
+use Rattle.std.proofs.lemmas.List.{take_more, take_all, drop_all, drop-append-le, length-take-le, get_or-set_same, get_or-set_other, take-append-drop, drop-drop}
 use Rattle.std.proofs.lemmas.Bool.{cases_Bool, cases_eq, both_ways, and_left, eqb-true, ne_eqb, or_from}
 use Rattle.truth.specs.Limits.{max_blocks}
 use Rattle.truth.specs.Truth.{any}
@@ -41,11 +41,6 @@ first_within v level set es s w =
     ap (λ z. take s.start es ++ (mid ++ z)) rest ∙ ap (λ z. take s.start es ++ z) (take-append-drop (s.end - s.start) (drop s.start es)) ∙ take-append-drop s.start es in
     sym (first_before p mid (drop s.end es) behind) ∙ sym (first_behind p (take s.start es) (mid ++ drop s.end es) (none_cover v level set (take s.start es) w.2)) ∙ ap (find p) parts
 
--- Before the first entry.
-pub spanned_none : (es : List Entry) (none : Span) → none.start ≡ 0 → none.end ≡ 0 → Spanned es 0 (replicate (max_blocks + 1) none)
-spanned_none es none a b level d h =
-    rw (get_or-replicate (max_blocks + 1) level none d (omega arith)) (omega arith, omega arith, rw a refl, rw b refl)
-
 -- One entry more that is not of the level.
 within_other : (es : List Entry) (i level : ℕ) (s : Span) (d : Entry) → i < length es → at_level level (get_or es i d) ≡ false → Within es i level s → Within es (i + 1) level s
 within_other es i level s d h e w =
@@ -80,6 +75,3 @@ spanned_more es i spans d e a h s level c l =
 -- An entry of a level that has no place leaves the spans as they are.
 pub spanned_past : (es : List Entry) (i : ℕ) (spans : List Span) (d : Entry) → max_blocks < (get_or es i d).level → i < length es → Spanned es i spans → Spanned es (i + 1) spans
 spanned_past es i spans d far h s level c l = within_other es i level (get_or spans level c) d h (ne_eqb (get_or es i d).level level (λ k. omega arith)) (s level c l)
-
-pub spanned_all : (es : List Entry) (i : ℕ) (spans : List Span) → length es ≤ i → i ≤ length es → Spanned es i spans → Spanned es (length es) spans
-spanned_all es i spans a b s = let e : i ≡ length es = omega arith in subst (λ n. Spanned es n spans) e s

@@ -1,5 +1,5 @@
 -- The fault that a check finds.
-use Rattle.std.specs.Prelude.{ℕ, ◌+◌, Bool, cond, List, [], ◌∷◌, Some, None, Ok, Err, Option, Result}
+use Rattle.std.specs.Prelude.{ℕ, ◌+◌, Bool, cond, List, [], ◌∷◌, Some, None, Option}
 use Rattle.faults.specs.declared.cause.Cause.TheVariants.{RootUncovered, EntryUnsupported}
 use Rattle.faults.specs.declared.fault.Fault.{Fault}
 use Rattle.truth.specs.Syntax.{Qbf}
@@ -16,8 +16,3 @@ first_failing p (e ∷ es) line = cond (p e) (first_failing p es (line + 1)) (So
 abbrev pub fault_in : Qbf → Bool → List Entry → Option Fault
 fault_in f v es =
     cond (reached v es f.prefix 1 (root_of f v)) (first_failing (supported v f es) es 4) (Some (record { cause = RootUncovered; line = 0 }))
-
--- The fault of what is refused.
-abbrev pub refusal : {A : Type 0} → Result A Fault → Option Fault
-refusal (Ok a) = None
-refusal (Err e) = Some e

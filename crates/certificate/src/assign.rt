@@ -36,6 +36,7 @@ pub(crate) fn assign(formula: &Formula, level: usize, value: u16, played: Assign
         return played;
     };
     let mut all = played;
+    // An index, and no iterator: a formula tells the variables of a block one by one.
     for k in 0..width {
         let Some(variable) = formula.variable(level, k) else {
             unreachable()

@@ -1,10 +1,11 @@
 ghost use Rattle.std.specs.Prelude.{◌≡◌, is_ok, IfOk, OnOk};
+ghost use Rattle.std.specs.Result.{result_err};
 ghost use Rattle.truth.specs.Truth.{holds};
 ghost use Rattle.truth.specs.Plain.{holds_plainly};
 ghost use Rattle.truth.specs.Verdicts.{is_true};
 ghost use Rattle.qbf.specs.Held.{qbf_of};
 ghost use Rattle.certificate.specs.Accepting.{accepts};
-ghost use Rattle.certificate.specs.Faults.{fault_in, refusal};
+ghost use Rattle.certificate.specs.Faults.{fault_in};
 
 use crate::accepted::Accepted;
 use crate::checker::Checker;
@@ -25,7 +26,7 @@ pub fn check<'a>(
     verdict: Verdict,
     entries: &'a [Entry],
 ) -> Result<Accepted<'a>, Fault>
-    ensures fault { refusal result ≡ fault_in (qbf_of formula.now) (is_true verdict) entries.now }
+    ensures fault { result_err result ≡ fault_in (qbf_of formula.now) (is_true verdict) entries.now }
     ensures accepts { is_ok result ≡ accepts (qbf_of formula.now) (is_true verdict) entries.now }
     ensures keeps { IfOk result (λ a. (a.formula.now ≡ formula.now) × (a.verdict ≡ verdict) × (a.entries.now ≡ entries.now)) }
     ensures truth { OnOk result ((holds (qbf_of formula.now) ≡ is_true verdict) × (holds_plainly (qbf_of formula.now) ≡ is_true verdict)) }

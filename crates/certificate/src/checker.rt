@@ -51,6 +51,7 @@ impl<'a> Checker<'a> {
     {
         let level = entry.level as usize;
         let mut from = 0;
+        // An iterator of candidates would hold the same values as this loop, and serve it alone.
         while let Some(candidate) = self.formula.next_candidate(level, entry.set, from) {
             if !self.is_reached(level + 1, candidate.rest) {
                 return false;

@@ -4,6 +4,9 @@ ghost use Rattle.certificate.specs.Games.{verdict_of, blocks_at};
 
 use crate::scene::Scene;
 
+// Each turn lets callers do what is due in it, and nothing else. Two of them tell their position, each by a method of a
+// line: a trait for it would be an import more for every caller.
+
 // The other side's value is due.
 #[derive(Drop)]
 pub struct OtherTurn<'a> {

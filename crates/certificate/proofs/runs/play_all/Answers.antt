@@ -1,20 +1,14 @@
 use Rattle.std.proofs.Common.{length, ap, arith}
 use Rattle.std.proofs.lemmas.List.{nil_from_length}
-use Rattle.certificate.proofs.Going.{go_start, go_replied, go_taken, go_refused, go_waits, go_ended, lower_replied, lower_taken}
+use Rattle.certificate.proofs.Going.{go_replied, go_taken, go_refused, go_waits, go_ended, lower_replied, lower_taken}
 use Rattle.certificate.proofs.runs.play_all.Goals as goal
 
-pub loop-turn-init : goal.loop-turn-init
-loop-turn-init c = go_start c.args.game c.begin-turn.result _ c.begin-turn.ensures.root
+pub returns-in-Over-clause-played : goal.returns-in-Over-clause-played
+returns-in-Over-clause-played c = go_ended c.args.game _ _ _ c.loop-turn.invariant _ _ _ c.in-Over.is c.left.ensures.set c.played.ensures
 
-pub returns-in-Over : goal.returns-in-Over
-returns-in-Over c =
-    let run = go_ended c.args.game _ _ _ c.loop-turn.invariant _ _ _ c.in-Over.is c.left.ensures.set c.played.ensures in
-    record { played = run; plays = c.begin-turn.ensures.plays; right = c.begin-turn.ensures.plays.right _ _ run }
-
-pub returns-in_default : goal.returns-in_default
-returns-in_default c =
-    let run = go_waits c.args.game _ _ _ c.loop-turn.invariant _ c.in-Other.is _ c.position.ensures (nil_from_length _ c.in_default.ensures.cases) in
-    record { played = run; plays = c.begin-turn.ensures.plays; right = c.begin-turn.ensures.plays.right _ _ run }
+pub returns-in_default-clause-played : goal.returns-in_default-clause-played
+returns-in_default-clause-played c =
+    go_waits c.args.game _ _ _ c.loop-turn.invariant _ c.in-Other.is _ c.position.ensures (nil_from_length _ c.in_default.ensures.cases)
 
 pub loop-turn-smaller-in-Holder : goal.loop-turn-smaller-in-Holder
 loop-turn-smaller-in-Holder c = omega (arith, lower_replied c.loop-turn.turn c.reply.result.1 _ _ c.in-Holder.is c.reply.ensures.next)

@@ -1,13 +1,10 @@
-use Rattle.std.proofs.Common.{◌+◌, length, set, sym, refl, ap, ◌∙◌, subst, arith}
+use Rattle.std.proofs.Common.{◌+◌, length, set, sym, ap, ◌∙◌, subst, arith}
 use Rattle.std.proofs.lemmas.List.{length-set}
 use Rattle.certificate.specs.Spans.{Spanned}
-use Rattle.certificate.proofs.Places.{spanned_none, spanned_more, spanned_past, spanned_all}
+use Rattle.certificate.proofs.Places.{spanned_more, spanned_past}
 use Rattle.certificate.proofs.Faulting.{no_entry}
 use Rattle.certificate.proofs.index.Index.of.Goals as goal
 use Rattle.certificate.proofs.index.Index.of.Goals.{then-level-lt-PLACES, else-level-lt-PLACES}
-
-pub loop-i-init : goal.loop-i-init
-loop-i-init c = record { places = refl; spanned = spanned_none c.args.entries.now _ refl refl }
 
 pub loop-i-preserved : goal.loop-i-preserved
 loop-i-preserved c =
@@ -25,9 +22,3 @@ loop-i-preserved c =
         spanned = subst (Spanned es (c.loop-i.i + 1)) (sym w.spans-is) (spanned_past es c.loop-i.i spans no_entry (omega arith) c.loop-i-test.true known.spanned);
       }
     ]
-
-pub invariant_of-result : goal.invariant_of-result
-invariant_of-result c = record {
-  places = c.loop-i.invariant.places;
-  spanned = spanned_all _ _ c.loop-i.spans c.loop-i-test.false c.loop-i.auto.i-end c.loop-i.invariant.spanned;
-}
