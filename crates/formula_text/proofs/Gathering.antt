@@ -1,5 +1,5 @@
 -- What the records that gather a line's numbers and literals hold of them.
-use Rattle.std.proofs.Common.{◌≡◌, ℕ, ◌+◌, ◌-◌, ◌^◌, ◌<◌, ◌≤◌, max, Bool, true, false, cond, ◌&&◌, ltb, leb, List, [], ◌∷◌, ◌++◌, length, Some, None, sym, refl, ap, ◌∙◌, ap₂, inl, inr, arith}
+use Rattle.std.proofs.Common.{◌≡◌, ℕ, ◌-◌, ◌^◌, ◌<◌, ◌≤◌, max, Bool, true, false, cond, ◌&&◌, ltb, leb, List, [], ◌∷◌, ◌++◌, length, Some, None, sym, refl, ap, ◌∙◌, ap₂, inl, inr, arith}
 use lib.Bits.{bit_or, or_comm, or_zero_r}
 use Rattle.std.proofs.lemmas.List.{append-nil, append_assoc, length-append, length_push}
 use Rattle.std.proofs.lemmas.Bool.{cases_Bool, leb-true, leb-false, ltb-true, ltb-false, le-leb, lt-leb, and_parts, cond-true, ne_eqb}
@@ -10,7 +10,7 @@ use Rattle.formula_text.specs.declared.gather.Gathered.{Gathered}
 use Rattle.truth.specs.Limits.{max_variables, max_width}
 use Rattle.truth.specs.Syntax.{with_literal, clause_of}
 use Rattle.truth.specs.WellFormed.{all}
-use Rattle.formula_text.specs.Gathered.{no_numbers, wider, widened, has_none, fitting, nothing, further, gathered}
+use Rattle.formula_text.specs.Gathered.{no_numbers, widened, has_none, fitting, nothing, further, gathered}
 use Rattle.truth.proofs.Bits.{or_assoc}
 
 -- A number more than fits stays one too many.

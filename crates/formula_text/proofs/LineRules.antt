@@ -3,8 +3,8 @@ use Rattle.std.proofs.Common.{◌≡◌, ℕ, ◌<◌, ◌≤◌, Bool, true, fa
 use lib.Bits.{bit_and, bit_or}
 use Rattle.std.specs.Option.{ok_or, option_map}
 use Rattle.std.proofs.lemmas.List.{length-map}
-use Rattle.std.proofs.lemmas.Bool.{leb-true, le-leb, lt-leb, lt-ltb, le-ltb, and_parts, and_from, eqb-false, or_right}
-use Rattle.faults.specs.declared.cause.Cause.TheVariants.{OverLimit, BadVariable, BadAlternation, UnboundVariable}
+use Rattle.std.proofs.lemmas.Bool.{leb-true, le-leb, lt-leb, le-ltb, and_parts, and_from, eqb-false}
+use Rattle.faults.specs.declared.cause.Cause.TheVariants.{BadVariable, BadAlternation, UnboundVariable}
 use Rattle.faults.specs.declared.fault.Fault.{Fault}
 use Rattle.text.specs.Rows.{fields_of}
 use Rattle.text.specs.Taken.{and_then}
@@ -25,7 +25,7 @@ use Rattle.qbf.specs.Bound.{bind_all, Binds}
 use Rattle.formula_text.specs.Parse.{fault, variables_of, clause_literals, place_block, bind_clause}
 use Rattle.qbf.proofs.Masks.{closed-elem}
 use Rattle.qbf.proofs.Refereeing.{all_ranged_up}
-use Rattle.formula_text.proofs.Gathering.{is_fitting, not_fitting, highest_gathered, clause_gathered}
+use Rattle.formula_text.proofs.Gathering.{is_fitting, highest_gathered, clause_gathered}
 use Rattle.truth.proofs.Members.{all_append, all_weaker}
 use Rattle.formula_text.proofs.Binding.{bound_by_rule, bind_rule}
 use Rattle.formula_text.proofs.LiteralForms.{then_some, cond_cases, ended-made}

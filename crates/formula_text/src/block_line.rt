@@ -1,6 +1,6 @@
 ghost use Rattle.std.specs.Prelude.{◌≡◌, ◌<◌, ◌≤◌, not, ◌||◌, [], ◌∷◌, ◌++◌, length, Ok, Err, MatchResult, nat_le, nat_lt};
 ghost use Rattle.std.specs.Option.{ok_or, option_map};
-ghost use Rattle.truth.specs.Limits.{max_variables, max_blocks, max_width};
+ghost use Rattle.truth.specs.Limits.{max_blocks};
 ghost use Rattle.truth.specs.Syntax.{bound_in};
 ghost use Rattle.truth.specs.WellFormed.{existential, repeats};
 ghost use Rattle.qbf.specs.Stored.{block_of};
@@ -10,7 +10,7 @@ ghost use Rattle.qbf.specs.Bound.{Binds};
 ghost use Rattle.formula_text.specs.Parse.{variables_of, read_block};
 
 use crate::bind::bind;
-use crate::counts::Counts;
+use crate::counts::Header;
 use crate::gather::{Numbers, gather_numbers};
 use crate::header::take_letter;
 use faults::cause::Cause;
@@ -47,13 +47,12 @@ fn misplaced(prefix: &Prefix, quantifier: Quantifier, next: bool) -> bool
 pub(crate) fn read_block(
     line: &[u8],
     n: usize,
-    counts: Counts,
+    header: Header,
     prefix: &Prefix,
     quantifier: Quantifier,
     next: bool,
 ) -> Result<(Block, u64), Fault>
-    requires { counts.variables ≤ max_variables }
-    ensures { MatchResult result (λ p. (read_block n counts (blocks_in prefix.now) quantifier next line.now ≡ Ok (block_of p.0)) × (length prefix.now.blocks.items < max_blocks) × Binds p.1 (bound_in (blocks_in prefix.now ++ (block_of p.0 ∷ [])))) (λ e. read_block n counts (blocks_in prefix.now) quantifier next line.now ≡ Err e) }
+    ensures { MatchResult result (λ p. (read_block n header.counts (blocks_in prefix.now) quantifier next line.now ≡ Ok (block_of p.0)) × (length prefix.now.blocks.items < max_blocks) × Binds p.1 (bound_in (blocks_in prefix.now ++ (block_of p.0 ∷ [])))) (λ e. read_block n header.counts (blocks_in prefix.now) quantifier next line.now ≡ Err e) }
 {
     let numbers = numbers_of(line, Fault::new(Cause::FormulaForm, n))?;
     let Some(variables) = numbers else {
@@ -62,7 +61,7 @@ pub(crate) fn read_block(
     if prefix.len() >= MAX_BLOCKS {
         return Err(Fault::new(Cause::OverLimit, n));
     }
-    let Some(bound) = bind(variables.as_slice(), counts.variables, prefix.bound) else {
+    let Some(bound) = bind(variables.as_slice(), header.counts.variables, prefix.bound) else {
         return Err(Fault::new(Cause::BadVariable, n));
     };
     if misplaced(prefix, quantifier, next) {

@@ -1,11 +1,10 @@
 ghost use Rattle.std.specs.Prelude.{◌≡◌, ◌≤◌, ◌==◌, bit_and, bit_or};
 ghost use Rattle.std.specs.Option.{ok_or, option_map};
-ghost use Rattle.truth.specs.Limits.{max_variables};
 ghost use Rattle.qbf.specs.Held.{blocks_in};
 ghost use Rattle.formula_text.specs.Gathered.{nothing, gathered};
 ghost use Rattle.formula_text.specs.Parse.{clause_literals, read_clause};
 
-use crate::counts::Counts;
+use crate::counts::Header;
 use crate::gather::{Gathered, gather};
 use faults::cause::Cause;
 use faults::fault::Fault;
@@ -33,14 +32,13 @@ fn is_closed(clause: Clause, bound: u64) -> bool
 pub(crate) fn read_clause(
     line: &[u8],
     n: usize,
-    counts: Counts,
+    header: Header,
     prefix: &Prefix,
 ) -> Result<Clause, Fault>
-    requires { counts.variables ≤ max_variables }
-    ensures { result ≡ read_clause n counts (blocks_in prefix.now) line.now }
+    ensures { result ≡ read_clause n header.counts (blocks_in prefix.now) line.now }
 {
     let literals = literals_of(line, Fault::new(Cause::FormulaForm, n))?;
-    if literals.highest > counts.variables {
+    if literals.highest > header.counts.variables {
         return Err(Fault::new(Cause::BadVariable, n));
     }
     if !is_closed(literals.clause, prefix.bound) {

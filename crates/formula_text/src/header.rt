@@ -1,11 +1,10 @@
-ghost use Rattle.std.specs.Prelude.{◌≡◌, ◌≤◌, IfOk};
+ghost use Rattle.std.specs.Prelude.{◌≡◌, Ok, Err, MatchResult};
 ghost use Rattle.std.specs.Option.{ok_or};
 ghost use Rattle.text.specs.Left.{fields_left};
 ghost use Rattle.text.specs.Taken.{Took};
-ghost use Rattle.truth.specs.Limits.{max_variables, max_clauses};
 ghost use Rattle.formula_text.specs.Parse.{take_letter, take_cnf, header_of, read_header};
 
-use crate::counts::Counts;
+use crate::counts::{Counts, Header};
 use faults::cause::Cause;
 use faults::fault::Fault;
 use text::fields::Fields;
@@ -45,13 +44,12 @@ fn counts_of(line: &[u8], fault: Fault) -> Result<Counts, Fault>
 }
 
 // Reads the line `p`, on line n.
-pub(crate) fn read_header(line: &[u8], n: usize) -> Result<Counts, Fault>
-    ensures value { result ≡ read_header n line.now }
-    ensures few { IfOk result (λ h. (h.variables ≤ max_variables) × (h.clauses ≤ max_clauses)) }
+pub(crate) fn read_header(line: &[u8], n: usize) -> Result<Header, Fault>
+    ensures { MatchResult result (λ h. read_header n line.now ≡ Ok h.counts) (λ e. read_header n line.now ≡ Err e) }
 {
     let counts = counts_of(line, Fault::new(Cause::FormulaForm, n))?;
     if counts.variables > MAX_VARIABLES || counts.clauses as usize > MAX_CLAUSES {
         return Err(Fault::new(Cause::OverLimit, n));
     }
-    Ok(counts)
+    Ok(Header { counts })
 }

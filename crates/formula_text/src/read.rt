@@ -1,7 +1,6 @@
-ghost use Rattle.std.specs.Prelude.{◌≡◌, ◌+◌, ◌<◌, ◌≤◌, false, [], ◌∷◌, length, IfOk, Ok, Err, MatchOption, MatchResult};
+ghost use Rattle.std.specs.Prelude.{◌≡◌, ◌+◌, ◌<◌, false, [], ◌∷◌, length, Ok, Err, MatchOption, MatchResult};
 ghost use Rattle.text.specs.Left.{lines_left, next_line};
 ghost use Rattle.formula_text.specs.declared.kind.Kind.TheVariants.{Prefix as BlockKind};
-ghost use Rattle.truth.specs.Limits.{max_variables, max_clauses};
 ghost use Rattle.formula_text.specs.Kinds.{kind_of, block_next};
 ghost use Rattle.qbf.specs.Held.{blocks_in, clauses_in, meaning};
 ghost use Rattle.formula_text.specs.Parse.{clause_lines, block_lines, top_lines, parse};
@@ -9,7 +8,7 @@ ghost use Rattle.formula_text.specs.Form.{Exact};
 
 use crate::block_line::read_block;
 use crate::clause_line::read_clause;
-use crate::counts::Counts;
+use crate::counts::Header;
 use crate::grow::{formula_of, push_block, push_clause};
 use crate::header::read_header;
 use crate::kind::{Kind, kind_of};
@@ -22,9 +21,8 @@ use text::lines::Lines;
 use truth::literal::Quantifier;
 
 // Takes the comments and the line `p`.
-fn read_top(lines: &mut Lines) -> Result<Counts, Fault>
-    ensures value { MatchResult result (λ h. top_lines (next_line lines.old) (lines_left lines.old) ≡ block_lines (next_line lines.new) h [] (lines_left lines.new)) (λ e. top_lines (next_line lines.old) (lines_left lines.old) ≡ Err e) }
-    ensures few { IfOk result (λ h. (h.variables ≤ max_variables) × (h.clauses ≤ max_clauses)) }
+fn read_top(lines: &mut Lines) -> Result<Header, Fault>
+    ensures { MatchResult result (λ h. top_lines (next_line lines.old) (lines_left lines.old) ≡ block_lines (next_line lines.new) h.counts [] (lines_left lines.new)) (λ e. top_lines (next_line lines.old) (lines_left lines.old) ≡ Err e) }
 {
     while let Some(line) = lines.next() {
         match kind_of(line) {
@@ -36,28 +34,12 @@ fn read_top(lines: &mut Lines) -> Result<Counts, Fault>
     Err(Fault::new(Cause::FormulaForm, lines.line() + 1))
 }
 
-// Whether the next line is a block line.
-fn is_block_next(lines: &Lines) -> bool
-    ensures { result ≡ block_next (lines_left lines.now) }
-{
-    let mut ahead = *lines;
-    let Some(line) = ahead.next() else {
-        return false;
-    };
-    match kind_of(line) {
-        Kind::Prefix(_) => true,
-        _ => false,
-    }
-}
-
 // Takes the next line if it is a block line.
 fn next_block<'a>(lines: &mut Lines<'a>) -> Option<(Quantifier, &'a [u8])>
     ensures { MatchOption result ((lines.new.line ≡ lines.old.line) × (lines.new.rest.now ≡ lines.old.rest.now) × (block_next (lines_left lines.old) ≡ false)) (λ p. (lines_left lines.old ≡ p.1.now ∷ lines_left lines.new) × (kind_of p.1.now ≡ BlockKind p.0) × (lines.new.line ≡ lines.old.line + 1) × (length lines.new.rest.now < length lines.old.rest.now)) }
 {
     let mut ahead = *lines;
-    let Some(line) = ahead.next() else {
-        return None;
-    };
+    let line = ahead.next()?;
     match kind_of(line) {
         Kind::Prefix(quantifier) => {
             *lines = ahead;
@@ -67,34 +49,41 @@ fn next_block<'a>(lines: &mut Lines<'a>) -> Option<(Quantifier, &'a [u8])>
     }
 }
 
+// Whether the next line is a block line.
+fn is_block_next(lines: &Lines) -> bool
+    ensures { result ≡ block_next (lines_left lines.now) }
+{
+    let mut ahead = *lines;
+    next_block(&mut ahead).is_some()
+}
+
 // Takes the block lines.
-fn read_prefix(lines: &mut Lines, counts: Counts) -> Result<Prefix, Fault>
-    requires { counts.variables ≤ max_variables }
-    ensures { MatchResult result (λ p. block_lines (next_line lines.old) counts [] (lines_left lines.old) ≡ clause_lines (next_line lines.new) counts (blocks_in p) [] (lines_left lines.new)) (λ e. block_lines (next_line lines.old) counts [] (lines_left lines.old) ≡ Err e) }
+fn read_prefix(lines: &mut Lines, header: Header) -> Result<Prefix, Fault>
+    ensures { MatchResult result (λ p. block_lines (next_line lines.old) header.counts [] (lines_left lines.old) ≡ clause_lines (next_line lines.new) header.counts (blocks_in p) [] (lines_left lines.new)) (λ e. block_lines (next_line lines.old) header.counts [] (lines_left lines.old) ≡ Err e) }
 {
     let mut prefix = Prefix::new();
     while let Some((quantifier, line)) = next_block(lines) {
         let next = is_block_next(lines);
-        let (block, bound) = read_block(line, lines.line(), counts, &prefix, quantifier, next)?;
+        let (block, bound) = read_block(line, lines.line(), header, &prefix, quantifier, next)?;
         push_block(&mut prefix, block, bound);
     }
     Ok(prefix)
 }
 
 // Takes the clause lines, which are all that are left.
-fn read_matrix(lines: &mut Lines, counts: Counts, prefix: &Prefix) -> Result<Matrix, Fault>
-    requires { (counts.variables ≤ max_variables) × (counts.clauses ≤ max_clauses) }
-    ensures { MatchResult result (λ m. clause_lines (next_line lines.old) counts (blocks_in prefix.now) [] (lines_left lines.old) ≡ Ok (record { variables = counts.variables; prefix = blocks_in prefix.now; matrix = clauses_in m })) (λ e. clause_lines (next_line lines.old) counts (blocks_in prefix.now) [] (lines_left lines.old) ≡ Err e) }
+fn read_matrix(lines: &mut Lines, header: Header, prefix: &Prefix) -> Result<Matrix, Fault>
+    ensures { MatchResult result (λ m. clause_lines (next_line lines.old) header.counts (blocks_in prefix.now) [] (lines_left lines.old) ≡ Ok (record { variables = header.counts.variables; prefix = blocks_in prefix.now; matrix = clauses_in m })) (λ e. clause_lines (next_line lines.old) header.counts (blocks_in prefix.now) [] (lines_left lines.old) ≡ Err e) }
 {
+    let count = header.counts.clauses as usize;
     let mut matrix = Matrix::new();
     while let Some(line) = lines.next() {
-        if matrix.len() == counts.clauses as usize {
+        if matrix.len() == count {
             return Err(Fault::new(Cause::ClauseCount, lines.line()));
         }
-        let clause = read_clause(line, lines.line(), counts, prefix)?;
+        let clause = read_clause(line, lines.line(), header, prefix)?;
         push_clause(&mut matrix, clause);
     }
-    if matrix.len() < counts.clauses as usize {
+    if matrix.len() < count {
         return Err(Fault::new(Cause::ClauseCount, lines.line() + 1));
     }
     Ok(matrix)
@@ -105,10 +94,10 @@ fn read_lines(text: &[u8]) -> Result<Formula, Fault>
     ensures { meaning result ≡ parse text.now }
 {
     let mut lines = Lines::new(text);
-    let counts = read_top(&mut lines)?;
-    let prefix = read_prefix(&mut lines, counts)?;
-    let matrix = read_matrix(&mut lines, counts, &prefix)?;
-    Ok(formula_of(counts.variables, prefix, matrix))
+    let header = read_top(&mut lines)?;
+    let prefix = read_prefix(&mut lines, header)?;
+    let matrix = read_matrix(&mut lines, header, &prefix)?;
+    Ok(formula_of(header.counts.variables, prefix, matrix))
 }
 
 // Reads a formula: the one that the text means, or the fault with the lowest line and then the lowest number.

@@ -1,5 +1,5 @@
 -- Sets of clauses as numbers of as many digits as there are clauses.
-use Rattle.std.proofs.Common.{◌≡◌, ℕ, ◌+◌, ◌-◌, ◌*◌, ◌/◌, ◌%◌, ◌^◌, ◌<◌, ◌≤◌, Bool, true, false, cond, List, [], ◌∷◌, ◌++◌, length, ap, pow-suc, pow_mono, arith}
+use Rattle.std.proofs.Common.{◌≡◌, ℕ, ◌+◌, ◌-◌, ◌*◌, ◌/◌, ◌%◌, ◌^◌, ◌<◌, ◌≤◌, Bool, cond, List, [], ◌∷◌, ◌++◌, length, ap, pow_mono, arith}
 use Rattle.std.proofs.lemmas.List.{length-append}
 use Rattle.truth.specs.declared.literal.Clause.{Clause}
 use Rattle.truth.specs.Limits.{max_clauses}

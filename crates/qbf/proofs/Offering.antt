@@ -1,10 +1,10 @@
 -- The candidates of a position are the values that none beats in what they satisfy of its set.
-use Rattle.std.proofs.Common.{◌≡◌, ℕ, suc, ◌+◌, ◌-◌, ◌/◌, ◌%◌, ◌^◌, ◌<◌, ◌≤◌, Bool, true, false, cond, not, ◌&&◌, ◌||◌, eqb, ltb, List, [], ◌∷◌, ◌++◌, length, Some, None, filter, Option, sym, refl, ap, ◌∙◌, append_assoc, subst, ap₂, inl, inr, arith}
+use Rattle.std.proofs.Common.{◌≡◌, ℕ, suc, ◌-◌, ◌/◌, ◌%◌, ◌^◌, ◌≤◌, Bool, true, false, cond, not, ◌&&◌, ◌||◌, eqb, ltb, List, [], ◌∷◌, ◌++◌, length, Some, None, filter, Option, sym, refl, ap, ◌∙◌, subst, ap₂, inl, inr, arith}
 use mathlib.Core.Path.{fun_ext}
 use lib.Bits.{bit_and, bit_or, and_zero_r}
 use Rattle.std.specs.Option.{option_map}
 use Rattle.std.proofs.lemmas.List.{length-append}
-use Rattle.std.proofs.lemmas.Bool.{cases_eq, both_ways, eqb-true, eq-eqb, ne_eqb, lt-ltb, cond-true, and_parts}
+use Rattle.std.proofs.lemmas.Bool.{cases_eq, both_ways, eqb-true, eq-eqb, ne_eqb, lt-ltb, and_parts}
 use Rattle.truth.specs.declared.literal.Quantifier.{Quantifier}
 use Rattle.truth.specs.declared.literal.Quantifier.TheVariants.{Existential, Universal}
 use Rattle.truth.specs.declared.literal.Clause.{Clause}
@@ -22,7 +22,7 @@ use Rattle.truth.proofs.Settling.{rest-settled, settled_sub}
 use Rattle.truth.proofs.Complements.{minus_inside, minus_same, and_sub, and_minus, sub_le}
 use Rattle.candidates.specs.declared.choice.Choice.{Choice}
 use Rattle.candidates.specs.declared.choice.Hit.{Hit}
-use Rattle.candidates.specs.Hits.{hit, better, beaten, bests, ahead}
+use Rattle.candidates.specs.Hits.{hit, better, beaten, bests}
 use Rattle.qbf.specs.declared.candidate.Candidate.{Candidate}
 use Rattle.text.specs.Taken.{and_then}
 use Rattle.qbf.proofs.Parts.{parted}

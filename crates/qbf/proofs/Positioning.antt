@@ -1,23 +1,21 @@
 -- What values and words settle, by loops over variables and blocks.
-use Rattle.std.proofs.Common.{◌≡◌, ℕ, zero, suc, ◌+◌, ◌-◌, ◌*◌, ◌/◌, ◌%◌, ◌^◌, ◌<◌, ◌≤◌, Bool, true, false, ◌&&◌, eqb, leb, List, [], ◌∷◌, map, length, get_or, take, drop, Some, Ok, Err, sym, refl, ap, ◌∙◌, ap₂, mod-eq_of_lt, one-mul, arith}
+use Rattle.std.proofs.Common.{◌≡◌, ℕ, zero, suc, ◌+◌, ◌-◌, ◌*◌, ◌/◌, ◌%◌, ◌^◌, ◌<◌, ◌≤◌, Bool, true, false, eqb, leb, List, [], ◌∷◌, map, length, get_or, take, drop, Some, Ok, Err, sym, ap, ◌∙◌, ap₂, mod-eq_of_lt, one-mul, arith}
 use lib.Pow.{pow-lt}
 use lib.Bits.{bit_and, bit_or, or_zero_r}
 use Rattle.std.specs.Option.{option_map, ok_or}
-use Rattle.std.specs.List.{slice_get}
-use Rattle.std.proofs.lemmas.List.{at_drop_more, at_drop_all, drop_more, length-drop, length-map, length-take-le, take-map}
+use Rattle.std.proofs.lemmas.List.{at_drop_more, at_drop_all, drop_more, length-drop, length-map, take-map}
 use Rattle.faults.specs.declared.fault.Fault.{Fault}
 use Rattle.std.proofs.lemmas.Bool.{and_parts, eq-eqb, ne_eqb, le-leb, lt-leb}
 use Rattle.truth.specs.declared.literal.Clause.{Clause}
-use Rattle.truth.specs.Limits.{max_variables, max_width, max_clauses}
-use Rattle.truth.specs.Syntax.{Block, mask_of, bound_in}
-use Rattle.truth.specs.WellFormed.{all, ranged}
+use Rattle.truth.specs.Limits.{max_clauses}
+use Rattle.truth.specs.Syntax.{mask_of, bound_in}
+use Rattle.truth.specs.WellFormed.{all}
 use Rattle.truth.specs.Places.{numbered}
 use Rattle.truth.specs.Sets.{inside}
 use Rattle.truth.specs.Truth.{rest, rest_under, whole}
 use Rattle.truth.specs.Positions.{decided_by, left_by, position_at}
 use Rattle.truth.specs.Occurrences.{occurrences, settled}
 use Rattle.truth.proofs.Bits.{or_assoc}
-use Rattle.truth.proofs.Members.{all_append}
 use Rattle.truth.proofs.Settling.{rest-settled, settled_small}
 use Rattle.qbf.specs.declared.block.Block.{Block as StoredBlock}
 use Rattle.qbf.specs.declared.formula.Formula.{Formula}

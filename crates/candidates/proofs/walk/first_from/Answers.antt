@@ -1,4 +1,4 @@
-use Rattle.std.proofs.Common.{sym, subst, arith, rules}
+use Rattle.std.proofs.Common.{sym, subst}
 use Rattle.candidates.specs.Walks.{Walked, Walked.begun}
 use Rattle.candidates.proofs.walk.first_from.Goals as goal
 

@@ -8,4 +8,4 @@ pub formula_of-requires : goal.formula_of-requires
 formula_of-requires c =
     parse_formed c.args.text.now _
     (ap₂ (λ n t. top_lines (n + 1) (lines_of t)) (sym c.new-lines.ensures.line) (sym c.new-lines.ensures.rest)
-    ∙ c.in_ok-counts.ensures.value ∙ c.in_ok-prefix.ensures ∙ c.in_ok-matrix.ensures)
+    ∙ c.in_ok-header.ensures ∙ c.in_ok-prefix.ensures ∙ c.in_ok-matrix.ensures)

@@ -1,4 +1,4 @@
-use Rattle.std.proofs.Common.{◌+◌, ◌*◌, ◌-◌, ◌/◌, ◌%◌, ◌^◌, ◌<◌, ◌∷◌, ap, ◌∙◌, ap₂, arith, rules}
+use Rattle.std.proofs.Common.{◌+◌, ◌*◌, ◌-◌, ◌/◌, ◌%◌, ◌^◌, ◌<◌, ◌∷◌, ap₂, arith, rules}
 use Rattle.qbf.proofs.Marks.{occurrences_room}
 use Rattle.qbf.proofs.Parts.{parted}
 use Rattle.qbf.proofs.occurrences.clauses_with.Goals as goal

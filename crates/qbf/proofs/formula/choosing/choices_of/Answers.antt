@@ -1,4 +1,4 @@
-use Rattle.std.proofs.Common.{◌≡◌, true, ltb, ◌∷◌, length, sym, ap, ◌∙◌, ap₂}
+use Rattle.std.proofs.Common.{◌≡◌, true, ltb, ◌∷◌, length, ap, ◌∙◌, ap₂}
 use lib.Bits.{bit_and}
 use Rattle.truth.specs.Limits.{max_variables, max_width}
 use Rattle.truth.specs.WellFormed.{ranged}

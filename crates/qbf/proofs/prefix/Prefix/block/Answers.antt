@@ -1,4 +1,3 @@
-use Rattle.std.proofs.Common.{length, ltb, ap, ◌∙◌}
 use Rattle.qbf.specs.Stored.{block_of}
 use Rattle.qbf.proofs.Numbered.{numbered_lookup}
 use Rattle.qbf.proofs.prefix.Prefix.block.Goals as goal

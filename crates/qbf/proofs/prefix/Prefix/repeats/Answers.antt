@@ -1,5 +1,4 @@
-use Rattle.std.proofs.Common.{◌≡◌, Some, sym, ap, ◌∙◌, None}
-use Rattle.std.specs.List.{slice_get}
+use Rattle.std.proofs.Common.{sym, ap, ◌∙◌}
 use Rattle.std.specs.Option.{option_copied}
 use Rattle.qbf.proofs.Lasts.{same_derived, repeats_last, repeats_none}
 use Rattle.qbf.proofs.prefix.Prefix.repeats.Goals as goal
