@@ -2,7 +2,6 @@ mod Pieces
 mod SetSteps
 pub mod FormulaFacts
 mod ReplySteps
-mod EntrySteps
 pub mod EntryFits
 pub mod Placed
 mod Lengths

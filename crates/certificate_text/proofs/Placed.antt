@@ -52,13 +52,6 @@ put_within at (b ∷ bs) buffer low room =
     ∙ append_assoc (take at buffer) (b ∷ []) _
     ∙ ap (λ t. take at buffer ++ (b ∷ (bs ++ t))) (drop-set-lt (at + 1 + length bs) buffer at b (omega arith) ∙ ap (λ k. drop k buffer) next)
 
--- Bytes of a slice, from the i-th on.
-pub put_next : (xs : List ℕ) (i : ℕ) (s : ℕ × List ℕ) → i < length xs → put (drop i xs) s ≡ put (drop (i + 1) xs) (put (get_or xs i 0 ∷ []) s)
-put_next xs i s h = at_drop_more (λ ys. put ys s) xs i 0 h
-
-pub put_all : (xs : List ℕ) (i : ℕ) (s : ℕ × List ℕ) → length xs ≤ i → put (drop i xs) s ≡ s
-put_all xs i s h = at_drop_all (λ ys. put ys s) xs i h
-
 -- Decimal digits.
 
 pub last_digit : (n : ℕ) → n < 10 → (48 + n % 10) ∷ [] ≡ decimal n
@@ -92,9 +85,6 @@ clause_not_held before k n s h even =
     let down : n - k ≡ suc (n - (k + 1)) = omega arith in
     ap (λ j. listed_numbers before (clauses_from (k + 1) j s)) down ∙ rw (ne_eqb (s % 2) 1 even)
 
-pub clauses_end : (before : List ℕ) (k n s : ℕ) → n ≤ k → listed_numbers before (clauses_from (k + 1) (n - k) s) ≡ []
-clauses_end before k n s h = let none : n - k ≡ 0 = omega arith in ap (λ j. listed_numbers before (clauses_from (k + 1) j s)) none
-
 -- Lines of entries.
 
 pub entries_step : (f : Qbf) (es : List Entry) (k : ℕ) (e : Entry) → k < length es → Some e ≡ slice_get es k → entries_text f (drop k es) ≡ (entry_text f e ++ (10 ∷ [])) ++ entries_text f (drop (k + 1) es)
@@ -114,9 +104,6 @@ line_added f es k e h n short =
 pub entries_told : {A : Type 0} (es : List Entry) (k : ℕ) → k < length es → slice_get es k ≡ None → A
 entries_told [] k h n = absurd (omega arith)
 entries_told (e ∷ es) k h n = let p = sym n ∙ slice_get-get_or (e ∷ es) k e h in absurd (let z : ◌≡◌ {A = ℕ} 0 1 = cc in omega arith)
-
-pub entries_end : (f : Qbf) (es : List Entry) (k : ℕ) → length es ≤ k → entries_text f (drop k es) ≡ []
-entries_end f es k h = at_drop_all (entries_text f) es k h
 
 -- Three fields and byte 10, put one after another.
 pub fields_wrote : {w0 w1 w2 w3 w4 w5 w6 : Writer} {a b c : List ℕ} → Wrote w0 w1 a → Wrote w1 w2 (32 ∷ []) → Wrote w2 w3 b → Wrote w3 w4 (32 ∷ []) → Wrote w4 w5 c → Wrote w5 w6 (10 ∷ [])

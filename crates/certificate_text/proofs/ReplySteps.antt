@@ -15,14 +15,5 @@ bits_parts xs i h e =
       | inr z ↦ let d = eqb-true (get_or xs i 0) 49 z in (omega arith, omega arith, p.1)
     ]
 
-pub value_more : (xs : List ℕ) (n i v : ℕ) → i < length xs → binary n (drop i xs) ≡ v → binary (n * 2 + (get_or xs i 0 - 48)) (drop (i + 1) xs) ≡ v
-value_more xs n i v h e = sym (at_drop_more (binary n) xs i 0 h) ∙ e
-
-pub value_end : (xs : List ℕ) (n i v : ℕ) → length xs ≤ i → binary n (drop i xs) ≡ v → n ≡ v
-value_end xs n i v h e = sym (at_drop_all (binary n) xs i h) ∙ e
-
 pub value_below : (n i : ℕ) → n < 2 ^ i → i < 12 → n < 2048
 value_below n i l h = let q : i ≤ 11 = omega arith in let p : 2 ^ i ≤ 2 ^ 11 = pow-le-pow_right (omega arith) q in omega (arith, p)
-
-pub value_grown : (n i d : ℕ) → n < 2 ^ i → d < 2 → n * 2 + d < 2 ^ (i + 1)
-value_grown n i d l h = rw (add-one, pow-suc) (omega arith)

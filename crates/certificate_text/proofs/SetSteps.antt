@@ -48,11 +48,3 @@ set_gathered highest cs = gathered_some highest 0 0 cs ∙ rw (zero-add (set_of 
 pub gather_start : (highest : ℕ) (g : ℕ × ℕ) (o : Option (List ℕ)) → g ≡ nothing → option_map (λ cs. set_from (gathered highest (Some g) cs)) o ≡ option_map (set_up_to highest) o
 gather_start highest g None e = refl
 gather_start highest g (Some cs) e = rw e (ap Some (set_gathered highest cs))
-
--- One number more.
-pub gather_more : (highest : ℕ) (g : Option (ℕ × ℕ)) (ws rest : List (List ℕ)) (w : List ℕ) (c : ℕ) (x : Option (Option ℕ)) → ws ≡ w ∷ rest → numeral w ≡ Some c
-    → option_map (λ cs. set_from (gathered highest g cs)) (numerals ws) ≡ x → option_map (λ cs. set_from (gathered highest (and_then g (λ a. further highest a c)) cs)) (numerals rest) ≡ x
-gather_more highest g ws rest w c x s n i = sym step ∙ i
-  where
-    step : option_map (λ cs. set_from (gathered highest g cs)) (numerals ws) ≡ option_map (λ cs. set_from (gathered highest (and_then g (λ a. further highest a c)) cs)) (numerals rest)
-    step = rw (s, n) (elim (numerals rest) as (λ o. option_map (λ cs. set_from (gathered highest g cs)) (and_then o (λ ns. Some (c ∷ ns))) ≡ option_map (λ cs. set_from (gathered highest (and_then g (λ a. further highest a c)) cs)) o) [ None ↦ refl | Some ns ↦ refl ])

@@ -68,11 +68,9 @@ pub(crate) fn read_heading(lines: &mut Lines, words: &[&str]) -> Result<(), Faul
 fn verdict_of(word: &[u8]) -> Option<Verdict>
     ensures { result ≡ verdict_of word.now }
 {
-    match word {
-        b"true" => Some(Verdict::True),
-        b"false" => Some(Verdict::False),
-        _ => None,
-    }
+    [Verdict::True, Verdict::False]
+        .into_iter()
+        .find(|v| word == v.word().as_bytes())
 }
 
 // Takes the verdict.

@@ -4,7 +4,7 @@ ghost use Rattle.text.specs.Left.{fields_left};
 ghost use Rattle.text.specs.Taken.{Took};
 ghost use Rattle.truth.specs.Limits.{max_clauses};
 ghost use Rattle.certificate_text.specs.SetField.{pieces, numerals, clauses_of, set_up_to, take_set};
-ghost use Rattle.certificate_text.specs.Gathering.{nothing, further, pieces_left, left_length};
+ghost use Rattle.certificate_text.specs.Gathering.{further, pieces_left, left_length};
 
 use faults::fault::Fault;
 use std::marker::Model;
@@ -30,12 +30,6 @@ impl Model for Gathered {
 }
 
 impl Gathered {
-    fn nothing() -> Gathered
-        ensures { result ≡ nothing }
-    {
-        Gathered { set: 0, last: 0 }
-    }
-
     // One clause more, which has to be above the last and not above the highest.
     fn with(self, clause: u32, highest: usize) -> Option<Gathered>
         requires { highest ≤ max_clauses }
@@ -67,7 +61,7 @@ fn gather(field: &[u8], highest: usize) -> Option<Option<u128>>
     requires { highest ≤ max_clauses }
     ensures { result ≡ option_map (set_up_to highest) (numerals (pieces field.now)) }
 {
-    let mut all = Some(Gathered::nothing());
+    let mut all = Some(Gathered { set: 0, last: 0 });
     let mut left = Some(field);
     while let Some(rest) = left {
         let (first, after) = piece(rest);
