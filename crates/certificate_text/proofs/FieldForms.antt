@@ -1,10 +1,10 @@
 -- The fields that are read are those that would be written.
-use Rattle.std.proofs.Common.{◌≡◌, ℕ, zero, suc, ◌+◌, ◌-◌, ◌*◌, ◌/◌, ◌%◌, ◌^◌, ◌<◌, ◌≤◌, Bool, true, false, ◌&&◌, eqb, ltb, leb, List, [], ◌∷◌, ◌++◌, map, length, Some, codes, decimal, Option, sym, refl, ap, ◌∙◌, ap₂, inl, inr, mul_assoc, add-mul, one-mul, zero-mul, mul-one, mul-div_cancel, arith, pow_pos, pow-add}
-use Rattle.std.specs.List.{list_all}
+use Rattle.std.proofs.Common.{◌≡◌, ◌==◌, ℕ, zero, suc, ◌+◌, ◌-◌, ◌*◌, ◌/◌, ◌%◌, ◌^◌, ◌<◌, ◌≤◌, Bool, true, false, ◌&&◌, eqb, ltb, leb, List, [], ◌∷◌, ◌++◌, map, length, Some, codes, decimal, Option, sym, refl, ap, ◌∙◌, ap₂, inl, inr, mul_assoc, add-mul, one-mul, zero-mul, mul-one, mul-div_cancel, arith, pow_pos, pow-add}
+use Rattle.std.specs.List.{list_all, join_with_byte}
+use Rattle.std.proofs.lemmas.List.Splits.{length-slice_split, join_with_byte-slice_split}
 use Rattle.std.proofs.lemmas.List.{append-nil}
-use Rattle.std.proofs.lemmas.Bool.{cases_eq, cond_both, eq-eqb, ne_eqb, eqb-true, lt-ltb, ltb-true, leb-true, and_parts, and_from, or_cases, both_ways}
+use Rattle.std.proofs.lemmas.Bool.{cases_eq, eq-eqb, ne_eqb, eqb-true, lt-ltb, ltb-true, leb-true, and_parts, and_from, or_cases, both_ways}
 use Rattle.text.specs.Numeral.{numeral}
-use Rattle.text.specs.Rows.{onto}
 use Rattle.text.proofs.Decimal.{numeral-made}
 use Rattle.formula_text.proofs.LiteralForms.{none-some, then_some, cond_cases}
 use Rattle.entries.specs.declared.entry.Reply.{Reply}
@@ -24,35 +24,8 @@ dash_is (b ∷ c ∷ w) h = absurd (omega (arith, eqb-true (length (b ∷ c ∷ 
 
 -- Pieces, with a comma between each two, are the text again.
 
-abbrev glue : List (List ℕ) → List ℕ
-glue [] = []
-glue (p ∷ []) = p
-glue (p ∷ q ∷ ps) = p ++ (44 ∷ glue (q ∷ ps))
-
-onto-some : (b : ℕ) (ps : List (List ℕ)) → 0 < length (onto b ps)
-onto-some b [] = omega arith
-onto-some b (p ∷ ps) = omega arith
-
 pieces-some : (w : List ℕ) → 0 < length (pieces w)
-pieces-some [] = omega arith
-pieces-some (b ∷ w) = cond_both (eqb b 44) _ _ (λ ps. 0 < length ps) (λ _. omega arith) (λ _. onto-some b (pieces w))
-
-glue_cut : (ps : List (List ℕ)) → 0 < length ps → glue ([] ∷ ps) ≡ 44 ∷ glue ps
-glue_cut [] some = absurd (omega arith)
-glue_cut (p ∷ ps) some = refl
-
-glue-onto : (b : ℕ) (ps : List (List ℕ)) → 0 < length ps → glue (onto b ps) ≡ b ∷ glue ps
-glue-onto b [] some = absurd (omega arith)
-glue-onto b (p ∷ []) some = refl
-glue-onto b (p ∷ q ∷ ps) some = refl
-
-glue-pieces : (w : List ℕ) → glue (pieces w) ≡ w
-glue-pieces [] = refl
-glue-pieces (b ∷ w) =
-    elim (cases_eq b 44) [
-      | inl e ↦ rw (eq-eqb b 44 e) (glue_cut (pieces w) (pieces-some w) ∙ ap₂ (λ x t. x ∷ t) (sym e) (glue-pieces w))
-      | inr n ↦ rw (ne_eqb b 44 n) (glue-onto b (pieces w) (pieces-some w) ∙ ap (λ t. b ∷ t) (glue-pieces w))
-    ]
+pieces-some w = omega (arith, length-slice_split (λ (b : ℕ). b == 44) w)
 
 numerals-made : (ps : List (List ℕ)) (cs : List ℕ) → numerals ps ≡ Some cs → ps ≡ map decimal cs
 numerals-made [] cs e = let is : [] ≡ cs = cc in rw (← is)
@@ -60,9 +33,9 @@ numerals-made (p ∷ ps) cs e =
     then_some (numeral p) _ cs e (λ n d e. then_some (numerals ps) _ cs e (λ ns r e.
     let is : n ∷ ns ≡ cs = cc in rw (← is) (ap₂ (λ x t. x ∷ t) (numeral-made p n d).0 (numerals-made ps ns r))))
 
-glue_decimals : (c : ℕ) (cs : List ℕ) → glue (map decimal (c ∷ cs)) ≡ decimal c ++ listed_numbers (44 ∷ []) cs
-glue_decimals c [] = sym (append-nil (decimal c))
-glue_decimals c (d ∷ cs) = ap (λ t. decimal c ++ (44 ∷ t)) (glue_decimals d cs)
+joined_decimals : (c : ℕ) (cs : List ℕ) → join_with_byte 44 (map decimal (c ∷ cs)) ≡ decimal c ++ listed_numbers (44 ∷ []) cs
+joined_decimals c [] = sym (append-nil (decimal c))
+joined_decimals c (d ∷ cs) = ap (λ t. decimal c ++ (44 ∷ t)) (joined_decimals d cs)
 
 -- One number at least.
 numbers_made : (w cs : List ℕ) → numerals (pieces w) ≡ Some cs → (w ≡ listed_numbers [] cs) × (0 < length cs)
@@ -70,7 +43,7 @@ numbers_made w cs e = by cs (numerals-made (pieces w) cs e)
   where
     by : (cs : List ℕ) → pieces w ≡ map decimal cs → (w ≡ listed_numbers [] cs) × (0 < length cs)
     by [] m = absurd (omega (arith, pieces-some w, ap length m))
-    by (c ∷ cs) m = (sym (glue-pieces w) ∙ ap glue m ∙ glue_decimals c cs, omega arith)
+    by (c ∷ cs) m = (sym (join_with_byte-slice_split 44 w) ∙ ap (join_with_byte 44) m ∙ joined_decimals c cs, omega arith)
 
 -- A set of ascending clauses has just these.
 

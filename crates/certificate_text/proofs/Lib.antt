@@ -1,4 +1,3 @@
-mod Pieces
 mod SetSteps
 pub mod FormulaFacts
 mod ReplySteps

@@ -1,9 +1,7 @@
 -- What the numbers of a set field leave in a pair of fixed size, one after another.
-use Rattle.std.specs.Prelude.{ℕ, ◌+◌, ◌-◌, ◌^◌, ◌&&◌, List, [], ◌∷◌, length, Some, None, Option, nat_le, nat_lt, if◌then◌else◌}
-use Rattle.std.specs.Borrow.{Bor}
+use Rattle.std.specs.Prelude.{ℕ, ◌+◌, ◌-◌, ◌^◌, ◌&&◌, List, [], ◌∷◌, Some, None, Option, nat_le, nat_lt, if◌then◌else◌}
 use Rattle.std.specs.Option.{option_map}
 use Rattle.text.specs.Taken.{and_then}
-use Rattle.certificate_text.specs.SetField.{pieces}
 
 -- The empty set, after no clause.
 abbrev pub nothing : ℕ × ℕ
@@ -21,12 +19,3 @@ gathered highest g (c ∷ cs) = gathered highest (and_then g (λ a. further high
 -- The set of what was gathered.
 abbrev pub set_from : Option (ℕ × ℕ) → Option ℕ
 set_from g = option_map (λ a. a.0) g
-
--- The pieces of a text that may be none, and how many bytes and ends are left.
-abbrev pub pieces_left : Option (Bor (List ℕ)) → List (List ℕ)
-pieces_left None = []
-pieces_left (Some r) = pieces r.now
-
-abbrev pub left_length : Option (Bor (List ℕ)) → ℕ
-left_length None = 0
-left_length (Some r) = length r.now + 1

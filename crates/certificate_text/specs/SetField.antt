@@ -1,6 +1,6 @@
 -- The set field of an entry line: clause numbers, ascending, joined by commas, or `-` for none.
 use Rattle.std.specs.Prelude.{ℕ, ◌+◌, ◌-◌, ◌^◌, Bool, true, cond, ◌&&◌, List, [], ◌∷◌, length, Some, None, Option, ◌==◌, nat_le, nat_lt, slice_index}
-use Rattle.text.specs.Rows.{onto}
+use Rattle.std.specs.List.{slice_split}
 use Rattle.text.specs.Numeral.{numeral}
 use Rattle.text.specs.Taken.{and_then}
 
@@ -10,8 +10,7 @@ is_dash w = length w == 1 && slice_index w 0 == 45
 
 -- What stands between commas (byte 44), before the first and after the last.
 abbrev pub pieces : List ℕ → List (List ℕ)
-pieces [] = [] ∷ []
-pieces (b ∷ bs) = cond (b == 44) ([] ∷ pieces bs) (onto b (pieces bs))
+pieces w = slice_split (λ b. b == 44) w
 
 -- The numbers that some texts write, where each writes one.
 abbrev pub numerals : List (List ℕ) → Option (List ℕ)

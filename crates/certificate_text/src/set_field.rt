@@ -1,10 +1,10 @@
-ghost use Rattle.std.specs.Prelude.{◌≡◌, ◌≤◌, ◌∷◌, length};
+ghost use Rattle.std.specs.Prelude.{◌≡◌, ◌≤◌};
 ghost use Rattle.std.specs.Option.{option_map};
 ghost use Rattle.text.specs.Left.{fields_left};
 ghost use Rattle.text.specs.Taken.{Took};
 ghost use Rattle.truth.specs.Limits.{max_clauses};
 ghost use Rattle.certificate_text.specs.SetField.{pieces, numerals, clauses_of, set_up_to, take_set};
-ghost use Rattle.certificate_text.specs.Gathering.{further, pieces_left, left_length};
+ghost use Rattle.certificate_text.specs.Gathering.{further};
 
 use faults::fault::Fault;
 use std::marker::Model;
@@ -45,29 +45,15 @@ impl Gathered {
     }
 }
 
-// What stands before the first comma, and what follows it, if there is one.
-fn piece(text: &[u8]) -> (&[u8], Option<&[u8]>)
-    ensures pieces { pieces text.now ≡ result.0.now ∷ pieces_left result.1 }
-    ensures shorter { left_length result.1 ≤ length text.now }
-{
-    match text.iter().position(|b| *b == b',') {
-        Some(end) => (&text[..end], Some(&text[end + 1..])),
-        None => (text, None),
-    }
-}
-
 // Reads numbers joined by commas. The set is none where one is out of range or order.
 fn gather(field: &[u8], highest: usize) -> Option<Option<u128>>
     requires { highest ≤ max_clauses }
     ensures { result ≡ option_map (set_up_to highest) (numerals (pieces field.now)) }
 {
     let mut all = Some(Gathered { set: 0, last: 0 });
-    let mut left = Some(field);
-    while let Some(rest) = left {
-        let (first, after) = piece(rest);
-        let clause = number(first)?;
+    for piece in field.split(|b| *b == b',') {
+        let clause = number(piece)?;
         all = all.and_then(|g| g.with(clause, highest));
-        left = after;
     }
     Some(all.map(|g| g.set))
 }
