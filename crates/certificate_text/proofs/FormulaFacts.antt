@@ -1,14 +1,12 @@
 -- What holds of every formula that was read.
-use Rattle.std.proofs.Common.{◌≡◌, ℕ, zero, suc, ◌≤◌, true, leb, List, [], ◌∷◌, length, take, Some, None, Option, refl, arith}
+use Rattle.std.proofs.Common.{◌≡◌, ℕ, zero, suc, ◌≤◌, true, leb, List, [], ◌∷◌, length, Some, None, Option, refl, arith}
 use Rattle.std.specs.Option.{option_map, unwrap_or}
-use Rattle.std.proofs.lemmas.List.{length-map, length-take-le}
 use Rattle.std.proofs.lemmas.Bool.{and_parts, leb-true}
-use Rattle.truth.specs.Limits.{max_clauses, max_blocks, max_width}
+use Rattle.truth.specs.Limits.{max_blocks, max_width}
 use Rattle.truth.specs.Places.{numbered}
 use Rattle.truth.specs.Syntax.{Block, Qbf}
 use Rattle.truth.specs.WellFormed.{WellFormed, all, wide}
 use Rattle.qbf.specs.declared.formula.Formula.{Formula}
-use Rattle.qbf.specs.Stored.{block_of}
 use Rattle.qbf.specs.Held.{qbf_of}
 use Rattle.qbf.proofs.Sizes.{few_clauses, few_blocks}
 use Rattle.certificate_text.specs.CertificateText.{width_at}

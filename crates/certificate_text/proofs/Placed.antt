@@ -3,7 +3,7 @@ use Rattle.std.proofs.Common.{◌≡◌, ℕ, zero, suc, ◌+◌, ◌-◌, ◌/�
 use Rattle.std.specs.List.{slice_get}
 use Rattle.std.proofs.lemmas.Option.{slice_get-get_or}
 use Rattle.std.proofs.lemmas.Bool.{le-leb, lt-leb, eq-eqb, ne_eqb}
-use Rattle.std.proofs.lemmas.List.{append_assoc, length-append, length_push, length-set, take_more_set, take-append-drop, drop-set-lt, at_drop_more, at_drop_all}
+use Rattle.std.proofs.lemmas.List.{append_assoc, length-append, length_push, length-set, take_more_set, take-append-drop, drop-set-lt, at_drop_more}
 use Rattle.std.proofs.lemmas.Fmt.{decimal_digit, decimal_step}
 use Rattle.faults.specs.declared.cause.Cause.TheVariants.{BufferShort}
 use Rattle.faults.specs.declared.fault.Fault.{Fault}

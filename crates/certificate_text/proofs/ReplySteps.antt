@@ -1,10 +1,10 @@
 -- The steps of loops over binary digits.
-use Rattle.std.proofs.Common.{◌≡◌, ℕ, ◌+◌, ◌-◌, ◌*◌, ◌^◌, ◌<◌, ◌≤◌, true, List, length, get_or, drop, sym, ◌∙◌, inl, inr, pow-suc, add-one, arith}
+use Rattle.std.proofs.Common.{◌≡◌, ℕ, ◌+◌, ◌^◌, ◌<◌, ◌≤◌, true, List, length, get_or, drop, sym, ◌∙◌, inl, inr, arith}
 use Rattle.std.specs.List.{list_all}
 use native.Mathlib.Nat.{pow-le-pow_right}
-use Rattle.std.proofs.lemmas.List.{at_drop_more, at_drop_all}
+use Rattle.std.proofs.lemmas.List.{at_drop_more}
 use Rattle.std.proofs.lemmas.Bool.{and_parts, or_cases, eqb-true}
-use Rattle.certificate_text.specs.ReplyField.{is_bit, binary}
+use Rattle.certificate_text.specs.ReplyField.{is_bit}
 
 -- What holds of the digits that are left.
 pub bits_parts : (xs : List ℕ) (i : ℕ) → i < length xs → list_all is_bit (drop i xs) ≡ true → (48 ≤ get_or xs i 0) × (get_or xs i 0 ≤ 49) × (list_all is_bit (drop (i + 1) xs) ≡ true)

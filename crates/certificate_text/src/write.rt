@@ -25,7 +25,8 @@ impl Writer<'_> {
         self.byte(b'\n');
     }
 
-    // Puts the lines of all entries.
+    // Puts the lines of all entries. A listing is asked by number: a chain over it would need one law more of every
+    // listing, and no fewer lines here.
     fn entries<L: Listing>(&mut self, formula: &Formula, entries: &L)
         requires { L.Listing.ready entries.now }
         ensures wrote { Wrote self.old self.new (entries_text (qbf_of formula.now) (L.Listing.listed entries.now)) }

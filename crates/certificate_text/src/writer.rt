@@ -48,7 +48,8 @@ impl<'a> Writer<'a> {
         self.byte(b'0' + (n % 10) as u8);
     }
 
-    // Puts a value's binary digits, as many as the width.
+    // Puts a value's binary digits, as many as the width. It ends with the width and not with the last digit that counts:
+    // a form for both would take the base and the end, and read worse than the two.
     pub(crate) fn binary(&mut self, width: usize, value: u16)
         ensures { Wrote self.old self.new (binary_text width value) }
     {
