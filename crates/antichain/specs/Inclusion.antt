@@ -17,15 +17,15 @@ covering true s t = inside t s
 covering false s t = inside s t
 
 -- To lie inside is an order of sets.
-inside_itself : (s : ℕ) → inside s s ≡ true
+pub inside_itself : (s : ℕ) → inside s s ≡ true
 inside_itself s = eq-eqb (bit_and s s) s (and_self s)
 
-inside_on : (s t u : ℕ) → inside s t ≡ true → inside t u ≡ true → inside s u ≡ true
+pub inside_on : (s t u : ℕ) → inside s t ≡ true → inside t u ≡ true → inside s u ≡ true
 inside_on s t u h k =
     let p = eqb-true (bit_and s t) s h in
     eq-eqb (bit_and s u) s (ap (λ r. bit_and r u) (sym p) ∙ and_assoc u s t ∙ ap (bit_and s) (eqb-true (bit_and t u) t k) ∙ p)
 
-inside_both : (s t : ℕ) → inside s t ≡ true → inside t s ≡ true → s ≡ t
+pub inside_both : (s t : ℕ) → inside s t ≡ true → inside t s ≡ true → s ≡ t
 inside_both s t h k = sym (eqb-true (bit_and s t) s h) ∙ and_comm s t ∙ eqb-true (bit_and t s) t k
 
 -- And so is covering.

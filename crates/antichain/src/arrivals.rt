@@ -10,7 +10,8 @@ use crate::store::{AddAnswer, ListedStore, Store};
 use crate::table::{capacity_of, find_cover, retain};
 use std::marker::Model;
 
-// A store over a lent table: its entries are the first `len`, in the order of their arrival.
+// A store over a lent table: its entries are the first `len`, in the order of their arrival. The table is lent, and the
+// library allocates nothing: so its length in use stands beside it.
 #[derive(Drop)]
 pub struct Arrivals<'a, E: Entry> {
     table: &'a mut [E],

@@ -4,7 +4,7 @@
 pub const MAX_LEVEL: usize = 16;
 
 // A start for each level, and the end of the last.
-pub(crate) const STARTS: usize = 17;
+pub(crate) const STARTS: usize = MAX_LEVEL + 1;
 
 // The entries that a store holds at most, however long its table is.
 pub const MAX_ENTRIES: usize = 65536;

@@ -26,7 +26,8 @@ pub(crate) fn find_cover<E: Entry>(entries: &[E], e: &E) -> Option<E>
 }
 
 // Moves the items that pass the test to the front, in order, and says how many they are. Nothing is written up to the
-// first that fails it: most additions to a store remove no entry. Slices have no `retain` of their own.
+// first that fails it: most additions to a store remove no entry. Slices have no `retain` of their
+// own, and no iterator can hold a slice that is read and written at two places.
 pub(crate) fn retain<T: Copy, F: Fn(&T) -> bool>(items: &mut [T], test: F) -> usize
     requires { F.IsAlwaysCallable test }
     ensures kept { (p : T → Bool) → ((x : T) (b : Bool) → FnReturnsAt F.Fn test x b → b ≡ p x) → take result items.new ≡ filter p items.old }

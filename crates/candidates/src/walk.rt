@@ -74,7 +74,7 @@ struct Rival {
 
 impl Rival {
     // Whether some value that goes on so, through the variables left, beats it. The hits and the value so far come
-    // apart: as one `Hit` this walk, the inmost, takes a third more instructions.
+    // apart: as one `Hit` this walk, the inmost, takes a third more instructions than it did.
     fn is_beaten(&self, left: &[Choice], hits: u128, value: u16) -> bool
         requires reaches { reaching left.now ≡ true }
         requires narrow { length left.now ≤ max_width }

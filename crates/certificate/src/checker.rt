@@ -51,7 +51,8 @@ impl<'a> Checker<'a> {
     {
         let level = entry.level as usize;
         let mut from = 0;
-        // An iterator of candidates would hold the same values as this loop, and serve it alone.
+        // An iterator of candidates would hold the formula, the level, the set and `from`, and need laws of its own: no plainer
+        // than to ask for the next one from where the last was.
         while let Some(candidate) = self.formula.next_candidate(level, entry.set, from) {
             if !self.is_reached(level + 1, candidate.rest) {
                 return false;

@@ -1,3 +1,4 @@
+// An enum of its own and no `Option`: its cases are those of the format, to which a third may come.
 // What the side that an entry speaks for plays at its level: nothing where it is the other side's turn, or a value.
 #[derive(Clone, Copy, PartialEq, Eq, Debug, Drop)]
 pub enum Reply {

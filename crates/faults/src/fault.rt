@@ -5,7 +5,8 @@ use crate::cause::Cause;
 use crate::layer::Layer;
 use std::fmt;
 
-// A refusal: its cause, and the line of the text at fault, from 1, or 0 where it stands in no line.
+// A refusal: its cause, and the line of the text at fault, from 1, or 0 where it stands in no line: a number and no
+// `Option`, since 0 is what the format has programs print.
 #[derive(Clone, Copy, PartialEq, Eq, Debug, Drop)]
 pub struct Fault {
     pub cause: Cause,

@@ -67,9 +67,8 @@ pub(crate) fn read_block(
     if misplaced(prefix, quantifier, next) {
         return Err(Fault::new(Cause::BadAlternation, n));
     }
-    let block = Block {
-        quantifier,
-        variables,
+    let Some(block) = Block::new(quantifier, variables) else {
+        unreachable()
     };
     Ok((block, bound))
 }

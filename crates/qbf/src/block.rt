@@ -1,17 +1,17 @@
-ghost use Rattle.std.specs.Prelude.{◌≡◌, ◌≤◌, true, length};
-ghost use Rattle.std.specs.List.{slice_get};
+ghost use Rattle.std.specs.Prelude.{◌≡◌, ◌≤◌, true, false, length, MatchOption};
+ghost use Rattle.std.specs.List.{slice_get, list_all};
 ghost use Rattle.truth.specs.Limits.{max_variables, max_width};
 ghost use Rattle.truth.specs.WellFormed.{all, ranged};
 
 use arrayvec::ArrayVec;
-use truth::limits::MAX_WIDTH;
+use truth::limits::{MAX_VARIABLES, MAX_WIDTH};
 use truth::literal::Quantifier;
 
 // A quantifier and the variables that it binds, in the order of its line.
 #[derive(Drop)]
 pub struct Block {
-    pub quantifier: Quantifier,
-    pub variables: ArrayVec<u32, MAX_WIDTH>,
+    pub(crate) quantifier: Quantifier,
+    pub(crate) variables: ArrayVec<u32, MAX_WIDTH>,
     ghost narrow: { length variables.items ≤ max_width },
     ghost range: { all (ranged max_variables) variables.items ≡ true },
 }
@@ -26,7 +26,27 @@ impl Default for Block {
     }
 }
 
+// Whether all numbers are variables.
+fn are_variables(numbers: &[u32]) -> bool
+    ensures { result ≡ list_all (ranged max_variables) numbers.now }
+{
+    numbers.iter().all(|v| *v >= 1 && *v <= MAX_VARIABLES)
+}
+
 impl Block {
+    // The block of these variables, or none where one of the numbers is no variable.
+    pub fn new(quantifier: Quantifier, variables: ArrayVec<u32, MAX_WIDTH>) -> Option<Block>
+        ensures { MatchOption result (all (ranged max_variables) variables.items ≡ false) (λ b. (b.quantifier ≡ quantifier) × (b.variables ≡ variables) × (all (ranged max_variables) variables.items ≡ true)) }
+    {
+        if !are_variables(variables.as_slice()) {
+            return None;
+        }
+        Some(Block {
+            quantifier,
+            variables,
+        })
+    }
+
     // The variables that it binds, in the order of its line.
     pub fn bound(&self) -> &[u32]
         ensures { result.now ≡ self.now.variables.items }

@@ -5,10 +5,11 @@ ghost use Rattle.qbf.specs.Held.{clauses_in};
 ghost use Rattle.qbf.specs.Tabled.{Tabled};
 
 use crate::matrix::Matrix;
+use truth::limits::MAX_VARIABLES;
 use truth::literal::Clause;
 
 // A place for each variable that there can be.
-const PLACES: usize = 64;
+const PLACES: usize = MAX_VARIABLES as usize;
 
 // The clauses that a variable satisfies if it is true, and those if it is false.
 #[derive(Clone, Copy, Drop)]
@@ -29,6 +30,7 @@ fn clauses_with(clauses: &[Clause], so: bool, variable: u32) -> u128
     requires range { (1 ≤ variable) × (variable ≤ max_variables) }
     ensures { result ≡ occurrences so clauses.now variable }
 {
+    // by `split_last`, and not over `rev()`: what is behind stays a slice, of which the loop says what it has found
     let mut found = 0;
     let mut left = clauses;
     while let Some((clause, before)) = left.split_last() {

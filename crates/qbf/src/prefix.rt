@@ -14,6 +14,7 @@ use truth::literal::Quantifier;
 
 // Blocks from the outermost, and the mask of the variables that they bind. Whoever makes one or changes it shows that no
 // variable is bound twice.
+// It and `Matrix` have four short methods alike; their facts differ, and one type for both would be a type more.
 #[derive(Drop)]
 pub struct Prefix {
     pub blocks: ArrayVec<Block, MAX_BLOCKS>,

@@ -1,7 +1,8 @@
 ghost use Rattle.std.specs.Prelude.{◌≡◌, ℕ, ◌<◌, ◌≤◌, ◌∷◌, length, ◌≢◌, slice_index};
 ghost use Rattle.text.specs.Rows.{rows};
 
-// The index of the first byte of `text` that equals `mark`, or `text`'s length where there is none.
+// The index of the first byte of `text` that equals `mark`, or `text`'s length where there is none: the end of what
+// stands before the mark in either case, which is what callers cut at.
 pub fn find(text: &[u8], mark: u8) -> usize
     ensures within { result ≤ length text.now }
     ensures before { (k : ℕ) → k < result → slice_index text.now k ≢ mark }

@@ -55,7 +55,7 @@ impl Clause {
     }
 }
 
-// The mask of one variable, and 0 for a number that no variable has.
+// The mask of one variable, and 0 for a number that no variable has: masks are joined, and there the empty one is right.
 pub fn mask(variable: u32) -> u64
     ensures one { 1 ≤ variable → variable ≤ max_variables → result ≡ 2 ^ (variable - 1) }
     ensures none { ranged max_variables variable ≡ false → result ≡ 0 }

@@ -13,6 +13,7 @@ use candidates::choices::Choices;
 fn choices_of(formula: &Formula, block: &Block, set: u128) -> Choices
     ensures { choices_in result ≡ offered (qbf_of formula.now).matrix set block.now.variables.items }
 {
+    // by `split_last`, as the walk over clauses that gathers occurrences
     let mut choices = Choices::new();
     let mut left = block.bound();
     while let Some((variable, before)) = left.split_last() {

@@ -51,7 +51,8 @@ fn left_digit(clause: &Clause, by: Assignment) -> u128
     if clause.satisfied(by) { 0 } else { 1 }
 }
 
-// The clauses that an assignment leaves of all: each clause adds its digit below those after it.
+// The clauses that an assignment leaves of all: each clause adds its digit below those after it. A recursion, as the
+// definition is: a loop would need an invariant, and no search calls it.
 fn unsatisfied(clauses: &[Clause], by: Assignment) -> u128
     requires { length clauses.now ≤ max_clauses }
     ensures { result ≡ rest clauses.now by.trues by.falses (whole clauses.now) }
@@ -100,6 +101,7 @@ impl Formula {
     pub fn root(&self, verdict: Verdict) -> u128
         ensures { result ≡ root_of (qbf_of self.now) (is_true verdict) }
     {
+        // by verdict, though both sets are the same: a rule that differs between them has its place here
         match verdict {
             Verdict::True | Verdict::False => self.whole(),
         }
