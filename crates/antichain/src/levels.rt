@@ -123,7 +123,7 @@ impl<'a, E: Entry> ListedStore<E> for Levels<'a, E> {
     }
 }
 
-// Takes `gone` off each start, or all of it.
+// Takes `gone` off each start, or all of it. Apart from `raise`, which has a bound to keep and none to stop at.
 fn lower(starts: &mut [usize], gone: usize)
     ensures { starts.new ≡ map (λ n. n - gone) starts.old }
 {

@@ -12,7 +12,7 @@ use truth::verdict::Verdict;
 // A place for each level that a formula can have, and for level 0.
 const PLACES: usize = MAX_BLOCKS + 1;
 
-// Places from one on and before another.
+// Places from one on and before another. An end of 0 takes in none: so no `Option` is needed to say that there is none.
 #[derive(Clone, Copy, Drop)]
 struct Span {
     start: usize,
