@@ -1,6 +1,5 @@
-use Rattle.std.proofs.Common.{◌+◌, ◌*◌, ◌-◌, ◌/◌, ◌%◌, ◌^◌, ◌<◌, ◌∷◌, ap₂, arith, rules}
+use Rattle.std.proofs.Common.{◌+◌, ◌*◌, ◌-◌, ◌/◌, ◌%◌, ◌^◌, ◌<◌, arith, rules}
 use Rattle.qbf.proofs.Marks.{occurrences_room}
-use Rattle.qbf.proofs.Parts.{parted}
 use Rattle.qbf.proofs.occurrences.clauses_with.Goals as goal
 
 pub overflow_mul-found : goal.overflow_mul-found
@@ -14,11 +13,3 @@ overflow_add-found c =
     let room = occurrences_room c.args.so _ _ c.in-Some.before.now h.0 c.in-Some.clause.now c.args.variable h.1 c.in-Some.ensures.cases.0 c.requires.few in
     let here : (c.satisfiers.result / 2 ^ (c.args.variable - 1)) % 2 + 2 * c.loop-clause.found < 2 ^ 128 = rw (c.satisfiers.ensures, h.2) room in
     search rules
-
-pub loop-clause-preserved : goal.loop-clause-preserved
-loop-clause-preserved c =
-    let h = c.loop-clause.invariant in (
-      c.in-Some.clause.now ∷ h.0,
-      parted _ _ c.in-Some.before.now h.0 c.in-Some.clause.now h.1 c.in-Some.ensures.cases.0,
-      ap₂ (λ a b. (a / 2 ^ (c.args.variable - 1)) % 2 + 2 * b) c.satisfiers.ensures h.2,
-    )

@@ -1,12 +1,7 @@
 use Rattle.std.proofs.Common.{Err, ap, ◌∙◌}
 use native.Mathlib.Nat.{sub-zero}
-use Rattle.qbf.proofs.Positioning.{position_past, position_off, position_on}
+use Rattle.qbf.proofs.Positioning.{position_off, position_on}
 use Rattle.qbf.proofs.formula.Formula.position.Goals as goal
-
-pub returns-then-decided-blocks : goal.returns-then-decided-blocks
-returns-then-decided-blocks c =
-    ap Err c.from.ensures
-    ∙ position_past c.args.self.now c.list-blocks.result.now c.list-blocks.ensures c.args.decided c.args.word _ c.if-decided-blocks.true
 
 pub returns-then-word-variables : goal.returns-then-word-variables
 returns-then-word-variables c =

@@ -1,6 +1,6 @@
 use Rattle.std.proofs.Common.{sym, ap, ◌∙◌}
 use Rattle.std.specs.Option.{option_copied}
-use Rattle.qbf.proofs.Lasts.{same_derived, repeats_last, repeats_none}
+use Rattle.qbf.proofs.Lasts.{same_derived, repeats_last}
 use Rattle.qbf.proofs.prefix.Prefix.repeats.Goals as goal
 
 pub returns-in-Some : goal.returns-in-Some
@@ -8,8 +8,3 @@ returns-in-Some c =
     let last = sym c.last.ensures.value ∙ ap option_copied c.in-Some.is in
     let q = c.args.quantifier in
     c.eq.ensures ∙ same_derived q _ ∙ sym (rw c.list.ensures at (repeats_last q c.list.result.now _ last))
-
-pub returns-in-None : goal.returns-in-None
-returns-in-None c =
-    let last = sym c.last.ensures.value ∙ ap option_copied c.in-None.is in
-    sym (rw c.list.ensures at (repeats_none c.args.quantifier c.list.result.now last))
