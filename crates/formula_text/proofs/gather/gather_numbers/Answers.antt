@@ -1,12 +1,6 @@
-use Rattle.std.proofs.Common.{Err, sym, ap, ◌∙◌, rules}
-use Rattle.formula_text.proofs.LiteralSteps.{widened_more, block_negated, block_empty, block_whole}
+use Rattle.std.proofs.Common.{Err, sym, ap, ◌∙◌}
+use Rattle.formula_text.proofs.LiteralSteps.{block_empty, block_whole}
 use Rattle.formula_text.proofs.gather.gather_numbers.Goals as goal
-
-pub returns-then-literal : goal.returns-then-literal
-returns-then-literal c = search (rules, block_negated)
-
-pub loop-literal-preserved : goal.loop-literal-preserved
-loop-literal-preserved c = search (rules, widened_more)
 
 pub returns-then-has_none : goal.returns-then-has_none
 returns-then-has_none c =
