@@ -32,17 +32,13 @@ fn with_variable(played: Assignment, variable: u32, so: bool) -> Assignment
 pub(crate) fn assign(formula: &Formula, level: usize, value: u16, played: Assignment) -> Assignment
     ensures { result ≡ assigned (blocks_from (qbf_of formula.now) level) value played }
 {
-    let Some(width) = formula.width(level) else {
+    let Some(variables) = formula.bound(level) else {
         return played;
     };
     let mut all = played;
-    // An index, and no iterator: a formula tells the variables of a block one by one.
-    for k in 0..width {
-        let Some(variable) = formula.variable(level, k) else {
-            unreachable()
-        };
-        let digit = (value >> (width - 1 - k)) % 2;
-        all = with_variable(all, variable, digit == 1);
+    for (i, variable) in variables.iter().enumerate() {
+        let digit = (value >> (variables.len() - 1 - i)) % 2;
+        all = with_variable(all, *variable, digit == 1);
     }
     all
 }

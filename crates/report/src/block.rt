@@ -1,6 +1,5 @@
 use qbf::formula::Formula;
 use std::fmt;
-use truth::limits::MAX_WIDTH;
 
 // The block at a level, which prints as its line in a formula's text has it, without the 0.
 #[derive(Drop)]
@@ -14,7 +13,7 @@ impl<'a> fmt::Display for BlockAt<'a> {
         if let Some(quantifier) = self.formula.quantifier(self.level) {
             write!(f, "{quantifier}")?;
         }
-        for variable in (0..MAX_WIDTH).filter_map(|k| self.formula.variable(self.level, k)) {
+        for variable in self.formula.bound(self.level).unwrap_or(&[]) {
             write!(f, " {variable}")?;
         }
         Ok(())

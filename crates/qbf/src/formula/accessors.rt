@@ -1,8 +1,10 @@
-ghost use Rattle.std.specs.Prelude.{◌≡◌, length};
+ghost use Rattle.std.specs.Prelude.{◌≡◌, ◌≤◌, true, length, IfSome};
 ghost use Rattle.std.specs.Option.{option_map};
 ghost use Rattle.std.specs.List.{slice_get};
 ghost use Rattle.text.specs.Taken.{and_then};
+ghost use Rattle.truth.specs.Limits.{max_variables, max_width};
 ghost use Rattle.truth.specs.Places.{numbered};
+ghost use Rattle.truth.specs.WellFormed.{all, ranged};
 ghost use Rattle.qbf.specs.Held.{qbf_of};
 
 use crate::formula::Formula;
@@ -49,6 +51,15 @@ impl Formula {
         ensures { result ≡ and_then (numbered (qbf_of self.now).prefix level) (λ b. slice_get b.variables k) }
     {
         self.prefix.block(level)?.variable(k)
+    }
+
+    // The variables of the block at a level, in the order of its line: at most twelve, and each from 1 to 64.
+    pub fn bound(&self, level: usize) -> Option<&[u32]>
+        ensures value { option_map (λ r. r.now) result ≡ option_map (λ b. b.variables) (numbered (qbf_of self.now).prefix level) }
+        ensures narrow { IfSome result (λ r. length r.now ≤ max_width) }
+        ensures range { IfSome result (λ r. all (ranged max_variables) r.now ≡ true) }
+    {
+        Some(self.prefix.block(level)?.bound())
     }
 
     // The clause with this number.
