@@ -1,8 +1,8 @@
 -- Variables are bound by a mask just where they are in range and none stands twice.
-use Rattle.std.proofs.Common.{◌≡◌, ℕ, ◌+◌, ◌-◌, ◌^◌, ◌<◌, ◌≤◌, true, false, cond, not, ◌&&◌, ◌||◌, eqb, leb, ◌⊎◌, List, [], ◌∷◌, ◌++◌, length, get_or, drop, Some, None, Option, sym, refl, ap, ◌∙◌, ap₂, inl, inr, arith}
-use lib.Bits.{bit_and, bit_or, or_zero_r}
-use Rattle.std.proofs.lemmas.List.{append-nil, append_assoc, at_drop_more, at_drop_all}
-use Rattle.std.proofs.lemmas.Bool.{cases_Bool, leb-true, le-leb, lt-leb, and_parts, and_from, and_right, not_from_false, eq-eqb, ne_eqb, or_right, or_left, cases_eq, not-true}
+use Rattle.std.proofs.Common.{◌≡◌, ℕ, ◌-◌, ◌^◌, true, false, cond, not, ◌&&◌, ◌||◌, eqb, leb, List, [], ◌∷◌, ◌++◌, Some, None, Option, sym, refl, ap, ◌∙◌, ap₂, inl, inr}
+use lib.Bits.{bit_or, or_zero_r}
+use Rattle.std.proofs.lemmas.List.{append-nil, append_assoc}
+use Rattle.std.proofs.lemmas.Bool.{cases_Bool, leb-true, and_parts, and_from, and_right, not_from_false, eq-eqb, ne_eqb, or_right, or_left, cases_eq, not-true}
 use Rattle.truth.specs.Syntax.{mask_of}
 use Rattle.truth.specs.WellFormed.{all, elem, distinct, positive, ranged}
 use Rattle.qbf.specs.Bound.{bind_all}
@@ -64,28 +64,3 @@ bound_by_rule highest ws (v ∷ vs) d p =
                 simp (t, free, e) (ap (λ m. bind_all highest m vs) one ∙ more ∙ whole)
           ]
     ]
-
--- The steps of a loop that binds variables, at index i.
-module _ (highest all : ℕ) (xs : List ℕ) (i : ℕ) (x : Option ℕ) (same : bind_all highest all (drop i xs) ≡ x) where
-  pub bind_end : length xs ≤ i → Some all ≡ x
-  bind_end h = sym (at_drop_all (bind_all highest all) xs i h) ∙ same
-
-  here : i < length xs → cond (ranged highest (get_or xs i 0) && eqb (bit_and all (2 ^ (get_or xs i 0 - 1))) 0) (bind_all highest (bit_or all (2 ^ (get_or xs i 0 - 1))) (drop (i + 1) xs)) None ≡ x
-  here h = sym (at_drop_more (bind_all highest all) xs i 0 h) ∙ same
-
-  pub bind_outside : i < length xs → (get_or xs i 0 ≡ 0) ⊎ (highest < get_or xs i 0) → None ≡ x
-  bind_outside h (inl z) = let t : leb 1 (get_or xs i 0) ≡ false = lt-leb 1 (get_or xs i 0) (omega arith) in simp t at (here h)
-  bind_outside h (inr l) =
-      let t : ranged highest (get_or xs i 0) ≡ false = and_right (leb 1 (get_or xs i 0)) (leb (get_or xs i 0) highest) (lt-leb (get_or xs i 0) highest l) in simp t at (here h)
-
-  pub bind_again : i < length xs → (b : ℕ) → b ≡ 2 ^ (get_or xs i 0 - 1) → eqb (bit_and all b) 0 ≡ false → None ≡ x
-  bind_again h b e n =
-      let t : eqb (bit_and all (2 ^ (get_or xs i 0 - 1))) 0 ≡ false = ap (λ c. eqb (bit_and all c) 0) (sym e) ∙ n in
-      let u : (ranged highest (get_or xs i 0) && eqb (bit_and all (2 ^ (get_or xs i 0 - 1))) 0) ≡ false = and_right (ranged highest (get_or xs i 0)) _ t in
-      simp u at (here h)
-
-  pub bind_more : i < length xs → 1 ≤ get_or xs i 0 → get_or xs i 0 ≤ highest → (b : ℕ) → b ≡ 2 ^ (get_or xs i 0 - 1) → eqb (bit_and all b) 0 ≡ true → bind_all highest (bit_or all b) (drop (i + 1) xs) ≡ x
-  bind_more h l m b e z =
-      let t : ranged highest (get_or xs i 0) ≡ true = and_from _ _ (le-leb 1 (get_or xs i 0) l) (le-leb (get_or xs i 0) highest m) in
-      let u : eqb (bit_and all (2 ^ (get_or xs i 0 - 1))) 0 ≡ true = ap (λ c. eqb (bit_and all c) 0) (sym e) ∙ z in
-      ap (λ c. bind_all highest (bit_or all c) (drop (i + 1) xs)) e ∙ (simp (t, u) at (here h))

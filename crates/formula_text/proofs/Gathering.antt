@@ -1,5 +1,5 @@
 -- What the records that gather a line's numbers and literals hold of them.
-use Rattle.std.proofs.Common.{◌≡◌, ℕ, ◌-◌, ◌^◌, ◌<◌, ◌≤◌, max, Bool, true, false, cond, ◌&&◌, ltb, leb, List, [], ◌∷◌, ◌++◌, length, Some, None, sym, refl, ap, ◌∙◌, ap₂, inl, inr, arith}
+use Rattle.std.proofs.Common.{◌≡◌, ℕ, ◌-◌, ◌^◌, ◌≤◌, max, Bool, true, false, cond, ◌&&◌, ltb, leb, List, [], ◌∷◌, ◌++◌, length, Some, None, sym, refl, ap, ◌∙◌, ap₂, inl, inr, arith}
 use lib.Bits.{bit_or, or_comm, or_zero_r}
 use Rattle.std.proofs.lemmas.List.{append-nil, append_assoc, length-append, length_push}
 use Rattle.std.proofs.lemmas.Bool.{cases_Bool, leb-true, leb-false, ltb-true, ltb-false, le-leb, lt-leb, and_parts, cond-true, ne_eqb}
@@ -39,13 +39,6 @@ is_fitting vs b e =
     elim (cases_Bool (leb (length vs) max_width)) [
       | inl t ↦ let same : ◌≡◌ {A = ArrayVec ℕ} (record { items = vs }) b = (let f : fitting vs ≡ Some (record { items = vs }) = simp t in cc) in (ap (λ y. y.items) (sym same), leb-true (length vs) max_width t)
       | inr t ↦ absurd (let f : fitting vs ≡ None = simp t in let z : ◌≡◌ {A = ℕ} 0 1 = cc in omega arith)
-    ]
-
-pub not_fitting : (vs : List ℕ) → fitting vs ≡ None → max_width < length vs
-not_fitting vs e =
-    elim (cases_Bool (leb (length vs) max_width)) [
-      | inl t ↦ absurd (let f : fitting vs ≡ Some (record { items = vs }) = simp t in let z : ◌≡◌ {A = ℕ} 0 1 = cc in omega arith)
-      | inr t ↦ leb-false (length vs) max_width t
     ]
 
 -- Where there is a number, some are there.

@@ -180,7 +180,3 @@ module _ (n : ℕ) (h : Counts) (p : Prefix) (q : Quantifier) (next : Bool) (lin
 
       pub block_ranged : h.variables ≤ max_variables → all (ranged max_variables) variables.items ≡ true
       block_ranged few = all_ranged_up h.variables max_variables variables.items few (bound_from (variables_of line) refl).1
-
-pub block_narrow : (o : Option (List ℕ)) (variables : ArrayVec ℕ) (at : Fault) → Ok (Some variables) ≡ ok_or (option_map fitting o) at → length variables.items ≤ max_width
-block_narrow None variables at e = cc
-block_narrow (Some vs) variables at e = let is : Some variables ≡ fitting vs = cc in let f = is_fitting vs variables (sym is) in omega (arith, ap length f.0, f.1)

@@ -5,9 +5,8 @@ use Rattle.faults.specs.declared.fault.Fault.{Fault}
 use Rattle.std.proofs.lemmas.Bool.{ne_eqb}
 use Rattle.text.specs.Taken.{and_then, take_field}
 use Rattle.truth.specs.declared.literal.Literal.{Literal}
-use Rattle.formula_text.specs.declared.gather.Gathered.{Gathered}
 use Rattle.formula_text.specs.Literals.{literal_of, literals_of, prepend, positives, some}
-use Rattle.formula_text.specs.Gathered.{Numbers, no_numbers, wider, widened, has_none, fitting, further, gathered}
+use Rattle.formula_text.specs.Gathered.{Numbers, no_numbers, widened, has_none, fitting}
 use Rattle.formula_text.proofs.Gathering.{numbers_widened, some_number}
 
 pub literals_more : (ws left : List (List ℕ)) (w : List ℕ) (l : Literal) → take_field ws ≡ Some (w, left) → literal_of w ≡ Some l → (l.variable ≡ 0 → ⊥) → literals_of ws ≡ prepend l (literals_of left)
@@ -18,41 +17,9 @@ literals_more (v ∷ vs) left w l t e n =
     let b : vs ≡ left = ap (λ x. x.1) p in
     simp (a, b, e, ne_eqb l.variable 0 n)
 
--- A loop that gathers literals.
-pub gathered_more : (o left : Option (List Literal)) (l : Literal) (g : Gathered) (x : Option Gathered) → o ≡ prepend l left → option_map (gathered g) o ≡ x → option_map (gathered (further g l)) left ≡ x
-gathered_more o None l g x e h = cc
-gathered_more o (Some ls) l g x e h = cc
-
-pub gathered_end : (o : Option (List Literal)) (g : Gathered) (x : Option Gathered) → o ≡ Some [] → option_map (gathered g) o ≡ x → x ≡ Some g
-gathered_end o g x e h = cc
-
--- A loop that gathers a block's numbers.
-onward : (l : Literal) (ls : List Literal) (b : Numbers) → l.negative ≡ false → option_map (widened b) (positives (l ∷ ls)) ≡ option_map (widened (wider b l.variable)) (positives ls)
-onward l ls b n =
-    simp n (elim (positives ls) as (λ p. option_map (widened b) (and_then p (λ vs. Some (l.variable ∷ vs))) ≡ option_map (widened (wider b l.variable)) p)
-    [ None ↦ refl | Some vs ↦ refl ])
-
-pub widened_more : (o left : Option (List Literal)) (l : Literal) (b : Numbers) (x : Option Numbers) → o ≡ prepend l left → l.negative ≡ false → option_map (widened b) (and_then o positives) ≡ x → option_map (widened (wider b l.variable)) (and_then left positives) ≡ x
-widened_more o None l b x e n h = cc
-widened_more o (Some ls) l b x e n h =
-    let o_is : o ≡ Some (l ∷ ls) = e in
-    sym (onward l ls b n) ∙ ap (λ y. option_map (widened b) (and_then y positives)) (sym o_is) ∙ h
-
 -- How the loop ends: at a negated number, with no number, or with a block. Here x is what all fields write.
 module _ (at : Fault) (o : Option (List Literal)) (b : Numbers) (x : Option (List ℕ))
     (same : option_map (widened b) (and_then o positives) ≡ option_map (widened no_numbers) x) where
-  pub block_negated : (left : Option (List Literal)) (l : Literal) → o ≡ prepend l left → l.negative ≡ true → Err at ≡ ok_or (option_map fitting (and_then x some)) at
-  block_negated None l e n = none_stays x (cc)
-    where
-      none_stays : (x : Option (List ℕ)) → None ≡ option_map (widened no_numbers) x → Err at ≡ ok_or (option_map fitting (and_then x some)) at
-      none_stays None h = refl
-      none_stays (Some vs) h = cc
-  block_negated (Some ls) l e n = none_stays x (cc)
-    where
-      none_stays : (x : Option (List ℕ)) → None ≡ option_map (widened no_numbers) x → Err at ≡ ok_or (option_map fitting (and_then x some)) at
-      none_stays None h = refl
-      none_stays (Some vs) h = cc
-
   written : o ≡ Some [] → Some b ≡ option_map (widened no_numbers) x
   written e = ap (λ y. option_map (widened b) (and_then y positives)) (sym e) ∙ same
 

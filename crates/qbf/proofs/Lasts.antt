@@ -1,6 +1,5 @@
 -- The last of some blocks.
-use Rattle.std.proofs.Common.{◌≡◌, ℕ, zero, suc, ◌-◌, List, [], ◌∷◌, map, length, refl, false, Some, None, ap, arith}
-use Rattle.std.proofs.lemmas.Option.{slice_get-get_or}
+use Rattle.std.proofs.Common.{◌≡◌, ℕ, zero, suc, ◌-◌, List, [], ◌∷◌, map, length, refl, Some, ap, arith}
 use Rattle.qbf.specs.declared.block.Block.{Block as StoredBlock}
 use Rattle.std.specs.List.{slice_get}
 use denote.Enum.Bare.{sameb}
@@ -28,7 +27,3 @@ repeats-at q (x ∷ y ∷ ys) (suc i) b h e = repeats-at q (y ∷ ys) i b (omega
 pub repeats_last : (q : Quantifier) (bs : List StoredBlock) (b : StoredBlock) → slice_get bs (length bs - 1) ≡ Some b → repeats q (map block_of bs) ≡ same q b.quantifier
 repeats_last q [] b e = cc
 repeats_last q (x ∷ xs) b e = repeats-at q (x ∷ xs) (length (x ∷ xs) - 1) b (omega arith) e
-
-pub repeats_none : (q : Quantifier) (bs : List StoredBlock) → slice_get bs (length bs - 1) ≡ None → repeats q (map block_of bs) ≡ false
-repeats_none q [] e = refl
-repeats_none q (x ∷ xs) e = let s = slice_get-get_or (x ∷ xs) (length (x ∷ xs) - 1) x (omega arith) in cc

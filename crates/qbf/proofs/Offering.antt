@@ -4,20 +4,18 @@ use mathlib.Core.Path.{fun_ext}
 use lib.Bits.{bit_and, bit_or, and_zero_r}
 use Rattle.std.specs.Option.{option_map}
 use Rattle.std.proofs.lemmas.List.{length-append}
-use Rattle.std.proofs.lemmas.Bool.{cases_eq, both_ways, eqb-true, eq-eqb, ne_eqb, lt-ltb, and_parts}
+use Rattle.std.proofs.lemmas.Bool.{cases_eq, both_ways, eqb-true, eq-eqb, ne_eqb, lt-ltb}
 use Rattle.truth.specs.declared.literal.Quantifier.{Quantifier}
 use Rattle.truth.specs.declared.literal.Quantifier.TheVariants.{Existential, Universal}
 use Rattle.truth.specs.declared.literal.Clause.{Clause}
 use Rattle.truth.specs.Limits.{max_width}
 use Rattle.truth.specs.Syntax.{Block, Qbf}
-use Rattle.truth.specs.WellFormed.{all}
 use Rattle.truth.specs.Sets.{inside}
 use Rattle.truth.specs.Places.{numbered}
 use Rattle.truth.specs.Truth.{any, below, rest_under, whole}
 use Rattle.truth.specs.Occurrences.{occurrences, settled}
 use Rattle.truth.specs.Candidates.{beats, candidate, candidates_at, first_from}
 use Rattle.truth.proofs.Bits.{Sub, sub_self, of_sub, and_or}
-use Rattle.truth.proofs.Members.{all_append}
 use Rattle.truth.proofs.Settling.{rest-settled, settled_sub}
 use Rattle.truth.proofs.Complements.{minus_inside, minus_same, and_sub, and_minus, sub_le}
 use Rattle.candidates.specs.declared.choice.Choice.{Choice}
@@ -144,10 +142,5 @@ module _ (f : Qbf) (level s from : ℕ) (b : Block) (is : Some b ≡ numbered f.
 
 -- The loop that gathers choices, from the last variable to the first: one more of those left.
 module _ (vs left before behind : List ℕ) (x : ℕ) (is : vs ≡ left ++ behind) (last : left ≡ before ++ (x ∷ [])) where
-  pub last_passes : (p : ℕ → Bool) → all p vs ≡ true → p x ≡ true
-  last_passes p h =
-      let later = and_parts (all p before) (all p (x ∷ behind)) (sym (ap (all p) (parted vs left before behind x is last) ∙ all_append p before (x ∷ behind)) ∙ h) in
-      (and_parts (p x) (all p behind) later.1).0
-
   pub room_left : (cs : List Clause) (s : ℕ) → length vs ≤ max_width → ltb (length (offered cs s behind)) max_width ≡ true
   room_left cs s narrow = lt-ltb _ _ (omega (arith, ap length (parted vs left before behind x is last), length-append before (x ∷ behind), offered-length cs s behind))

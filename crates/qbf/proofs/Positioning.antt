@@ -5,7 +5,7 @@ use lib.Bits.{bit_and, bit_or, or_zero_r}
 use Rattle.std.specs.Option.{option_map, ok_or}
 use Rattle.std.proofs.lemmas.List.{at_drop_more, at_drop_all, drop_more, length-drop, length-map, take-map}
 use Rattle.faults.specs.declared.fault.Fault.{Fault}
-use Rattle.std.proofs.lemmas.Bool.{and_parts, eq-eqb, ne_eqb, le-leb, lt-leb}
+use Rattle.std.proofs.lemmas.Bool.{and_parts, eq-eqb, ne_eqb, le-leb}
 use Rattle.truth.specs.declared.literal.Clause.{Clause}
 use Rattle.truth.specs.Limits.{max_clauses}
 use Rattle.truth.specs.Syntax.{mask_of, bound_in}
@@ -98,11 +98,6 @@ module _ (f : Formula) (bs : List StoredBlock) (is : bs ≡ f.prefix.blocks.item
 
   count_is : length (qbf_of f).prefix ≡ length bs
   count_is = ap length prefix_is ∙ length-map bs block_of
-
-  pub position_past : (e : Fault) → length bs < k → Err e ≡ ok_or (position_at (qbf_of f) k word) e
-  position_past e h =
-      let t : leb k (length (qbf_of f).prefix) ≡ false = lt-leb k _ (omega (arith, count_is)) in
-      simp t
 
   module _ (within : k ≤ length bs) (m : ℕ) (mask : m ≡ mask_of (bound_of (take k bs))) where
     near : leb k (length (qbf_of f).prefix) ≡ true
