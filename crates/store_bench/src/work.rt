@@ -21,6 +21,7 @@ pub(crate) fn add_each<S: ListedStore<Outer>, F: Fn(u16) -> Card>(
     requires { F.IsAlwaysCallable card }
 {
     let mut added = 0;
+    // call by call, and no chain: each addition alters the store
     for i in from..=to {
         if store.add(Covering(card(i))) == AddAnswer::Added {
             added += 1;
