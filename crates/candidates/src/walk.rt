@@ -1,4 +1,4 @@
-ghost use Rattle.std.specs.Prelude.{◌≡◌, ◌+◌, ◌-◌, ◌*◌, ◌^◌, ◌<◌, ◌≤◌, true, length, bit_or};
+ghost use Rattle.std.specs.Prelude.{◌≡◌, ◌+◌, ◌-◌, ◌*◌, ◌^◌, ◌<◌, ◌≤◌, true, length, reverse, bit_or};
 ghost use Rattle.truth.specs.Limits.{max_width};
 ghost use Rattle.candidates.specs.Hits.{reaching, at_least, may_reach, better};
 ghost use Rattle.candidates.specs.Walks.{some_hit, first_hit, good, Walked};
@@ -73,15 +73,15 @@ struct Rival {
 }
 
 impl Rival {
-    // Whether some value that goes on so, through the variables left, beats it. The hits and the value so far come
-    // apart: as one `Hit` this walk, the inmost, takes a third more instructions than it did.
+    // Whether some value that goes on so, through the variables left, the slice's last first, beats it. The hits and
+    // the value so far come apart: as one `Hit` this walk, the inmost, takes a third more instructions than it did.
     fn is_beaten(&self, left: &[Choice], hits: u128, value: u16) -> bool
-        requires reaches { reaching left.now ≡ true }
+        requires reaches { reaching (reverse left.now) ≡ true }
         requires narrow { length left.now ≤ max_width }
         requires small { value < 2 ^ (max_width - length left.now) }
-        ensures { result ≡ some_hit (better self.now.quantifier self.now.hit.hits self.now.hit.value) left.now hits value }
+        ensures { result ≡ some_hit (better self.now.quantifier self.now.hit.hits self.now.hit.value) (reverse left.now) hits value }
     {
-        let Some((choice, later)) = left.split_first() else {
+        let Some((choice, later)) = left.split_last() else {
             return Hit { value, hits }.beats(self.quantifier, self.hit);
         };
         if !can_reach(self.quantifier, self.hit.hits, hits, choice.reach) {
@@ -98,19 +98,19 @@ struct Search<'a> {
     quantifier: Quantifier,
     all: &'a [Choice],
     from: u16,
-    ghost reaches: { reaching all.now ≡ true },
+    ghost reaches: { reaching (reverse all.now) ≡ true },
     ghost narrow: { length all.now ≤ max_width },
 }
 
 impl<'a> Search<'a> {
-    // The lowest such value that goes on so, through the variables left.
+    // The lowest such value that goes on so, through the variables left, the slice's last first.
     fn first(&self, left: &[Choice], so_far: Hit) -> Option<Hit>
         requires narrow { length left.now ≤ max_width }
         requires small { so_far.value < 2 ^ (max_width - length left.now) }
-        requires walked { Walked self.now.all.now left.now so_far.hits so_far.value }
-        ensures { result ≡ first_hit (good self.now.quantifier self.now.all.now self.now.from) left.now so_far.hits so_far.value }
+        requires walked { Walked (reverse self.now.all.now) (reverse left.now) so_far.hits so_far.value }
+        ensures { result ≡ first_hit (good self.now.quantifier (reverse self.now.all.now) self.now.from) (reverse left.now) so_far.hits so_far.value }
     {
-        let Some((choice, later)) = left.split_first() else {
+        let Some((choice, later)) = left.split_last() else {
             let rival = Rival {
                 quantifier: self.quantifier,
                 hit: so_far,
@@ -135,11 +135,11 @@ impl<'a> Search<'a> {
     }
 }
 
-// The lowest value of a block that is not below `from` and is not beaten.
+// The lowest value of a block, its variables from the last to the first, that is not below `from` and is not beaten.
 pub(crate) fn first_from(quantifier: Quantifier, all: &[Choice], from: u16) -> Option<Hit>
-    requires reaches { reaching all.now ≡ true }
+    requires reaches { reaching (reverse all.now) ≡ true }
     requires narrow { length all.now ≤ max_width }
-    ensures { result ≡ first_hit (good quantifier all.now from) all.now 0 0 }
+    ensures { result ≡ first_hit (good quantifier (reverse all.now) from) (reverse all.now) 0 0 }
 {
     let search = Search {
         quantifier,

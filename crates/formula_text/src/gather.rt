@@ -68,13 +68,16 @@ pub(crate) fn gather(fields: &mut Fields) -> Result<Gathered, Fault>
 // The numbers of a block line, or none where there are more than a block may bind.
 pub(crate) type Numbers = Option<ArrayVec<u32, MAX_WIDTH>>;
 
-// One number more.
-fn with_number(numbers: Numbers, number: u32) -> Numbers
-    ensures { result ≡ wider numbers number }
+// One number more. They stay where they are: a block line may have many.
+fn add_number(numbers: &mut Numbers, number: u32)
+    ensures { numbers.new ≡ wider numbers.old number }
 {
-    let mut all = numbers?;
-    all.try_push(number).ok()?;
-    Some(all)
+    let Some(all) = numbers else {
+        return;
+    };
+    if all.try_push(number).is_err() {
+        *numbers = None;
+    }
 }
 
 // Whether there is no number yet.
@@ -96,7 +99,7 @@ pub(crate) fn gather_numbers(fields: &mut Fields) -> Result<Numbers, Fault>
         if literal.negative {
             return Err(fields.fault());
         }
-        numbers = with_number(numbers, literal.variable);
+        add_number(&mut numbers, literal.variable);
     }
     if has_none(&numbers) {
         return Err(fields.fault());

@@ -25,9 +25,9 @@ impl<'a> Texts<'a> {
         let (text, rest) = after.split_at(text_end.map_or(after.len(), |i| i + 1));
         self.rest = rest;
         let text = text.strip_prefix(b"\n").unwrap_or(text);
-        if title.ends_with(b"\\") {
-            return Some((title, text.strip_suffix(b"\n").unwrap_or(text)));
+        match text.split_last() {
+            Some((_, cut)) if title.ends_with(b"\\") => Some((title, cut)),
+            _ => Some((title, text)),
         }
-        Some((title, text))
     }
 }

@@ -22,5 +22,11 @@ occurrences_room so cs left before behind c v is last few =
 pub rest_fit : (c : Clause) (cs : List Clause) (t f d : ℕ) → length (c ∷ cs) ≤ max_clauses → d ≡ cond (satisfied c t f) 0 1 → d + 2 * rest cs t f (whole cs) < 2 ^ max_clauses
 rest_fit c cs t f d few e = omega (arith, e, rest_whole_more c cs t f, rest_small (c ∷ cs) t f (whole (c ∷ cs)), pow_mono {i = length (c ∷ cs)} {j = max_clauses} few)
 
+-- And of the last of those left, in the same walk.
+pub rest_room : (cs left before behind : List Clause) (c : Clause) (t f d : ℕ) → cs ≡ left ++ behind → left ≡ before ++ (c ∷ []) → length cs ≤ max_clauses →
+    d ≡ cond (satisfied c t f) 0 1 → d + 2 * rest behind t f (whole behind) < 2 ^ max_clauses
+rest_room cs left before behind c t f d is last few e =
+    rest_fit c behind t f d (omega (arith, ap length (parted cs left before behind c is last), length-append before (c ∷ behind))) e
+
 pub rest_more : (c : Clause) (cs : List Clause) (t f d : ℕ) → d ≡ cond (satisfied c t f) 0 1 → d + 2 * rest cs t f (whole cs) ≡ rest (c ∷ cs) t f (whole (c ∷ cs))
 rest_more c cs t f d e = omega (arith, e, rest_whole_more c cs t f)

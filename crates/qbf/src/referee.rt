@@ -21,9 +21,9 @@ use truth::verdict::Verdict;
 // How many variables some blocks bind.
 fn count_bound(blocks: &[Block]) -> usize
     requires { length blocks.now ≤ max_blocks }
-    ensures { result ≡ sum_by (λ b. length b.variables.items) blocks.now }
+    ensures { result ≡ sum_by (λ b. b.width) blocks.now }
 {
-    blocks.iter().map(|block| block.variables.len()).sum()
+    blocks.iter().map(|block| block.width).sum()
 }
 
 // Whether some blocks bind so few variables that every assignment can be tried.
@@ -49,7 +49,8 @@ fn decide_from(
     blocks: &[Block],
     by: Assignment,
 ) -> bool
-    requires { all (ranged max_variables) variables.now ≡ true }
+    requires outer { all (ranged max_variables) variables.now ≡ true }
+    requires inner { all (ranged max_variables) (bound_in (map block_of blocks.now)) ≡ true }
     ensures { result ≡ plain clauses.now (bind_before quantifier variables.now (single (map block_of blocks.now))) by.trues by.falses }
 {
     let Some((first, others)) = variables.split_first() else {

@@ -1,4 +1,4 @@
-ghost use Rattle.std.specs.Prelude.{◌≡◌, [], ◌∷◌, length, is_ok, if◌then◌else◌, nat_lt};
+ghost use Rattle.std.specs.Prelude.{◌≡◌, [], ◌∷◌, length, reverse, is_ok, if◌then◌else◌, nat_lt};
 ghost use Rattle.std.specs.Option.{option_map};
 ghost use Rattle.truth.specs.Limits.{max_width};
 ghost use Rattle.truth.specs.Candidates.{first_from};
@@ -11,11 +11,11 @@ use crate::walk::first_from;
 use arrayvec::{ArrayVec, CapacityError};
 use truth::literal::Quantifier;
 
-// All that some variables can satisfy at most.
+// All that some variables, from the last to the first, can satisfy at most.
 fn reach_of(choices: &[Choice]) -> u128
-    ensures { result ≡ reach_of choices.now }
+    ensures { result ≡ reach_of (reverse choices.now) }
 {
-    choices.first().map_or(0, |first| first.reach)
+    choices.last().map_or(0, |first| first.reach)
 }
 
 impl Choices {
@@ -36,7 +36,7 @@ impl Choices {
     {
         let reach = low | high | reach_of(self.held.as_slice());
         self.held
-            .try_insert(0, Choice { low, high, reach })
+            .try_push(Choice { low, high, reach })
             .map_err(|e| e.simplify())
     }
 

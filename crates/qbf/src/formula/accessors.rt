@@ -43,7 +43,7 @@ impl Formula {
     pub fn width(&self, level: usize) -> Option<usize>
         ensures { result ≡ option_map (λ b. length b.variables) (numbered (qbf_of self.now).prefix level) }
     {
-        Some(self.prefix.block(level)?.variables.len())
+        Some(self.prefix.block(level)?.width)
     }
 
     // The k-th variable of the block at a level, k from 0.

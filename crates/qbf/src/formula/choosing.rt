@@ -1,5 +1,8 @@
-ghost use Rattle.std.specs.Prelude.{◌≡◌};
+ghost use Rattle.std.specs.Prelude.{◌≡◌, true};
+ghost use Rattle.truth.specs.Limits.{max_variables};
+ghost use Rattle.truth.specs.WellFormed.{all, ranged};
 ghost use Rattle.candidates.specs.Held.{choices_in};
+ghost use Rattle.qbf.specs.Stored.{bound_by};
 ghost use Rattle.qbf.specs.Held.{qbf_of};
 ghost use Rattle.qbf.specs.Offered.{offered, next_candidate};
 
@@ -11,7 +14,8 @@ use candidates::choices::Choices;
 
 // What each of some variables satisfies of a set.
 fn choices_of(formula: &Formula, block: &Block, set: u128) -> Choices
-    ensures { choices_in result ≡ offered (qbf_of formula.now).matrix set block.now.variables.items }
+    requires { all (ranged max_variables) (bound_by block.now) ≡ true }
+    ensures { choices_in result ≡ offered (qbf_of formula.now).matrix set (bound_by block.now) }
 {
     // by `split_last`, as the walk over clauses that gathers occurrences
     let mut choices = Choices::new();

@@ -3,13 +3,13 @@ ghost use Rattle.std.specs.Option.{option_map, ok_or};
 ghost use Rattle.faults.specs.declared.cause.Cause.TheVariants.{BadPosition};
 ghost use Rattle.truth.specs.Limits.{max_variables, max_clauses};
 ghost use Rattle.truth.specs.Syntax.{mask_of, bound_in};
-ghost use Rattle.truth.specs.WellFormed.{ranged};
+ghost use Rattle.truth.specs.WellFormed.{all, ranged};
 ghost use Rattle.truth.specs.Places.{numbered};
 ghost use Rattle.truth.specs.Truth.{satisfied, rest, rest_under, whole, root_of};
 ghost use Rattle.truth.specs.Occurrences.{occurrences, settled};
 ghost use Rattle.truth.specs.Positions.{position_at};
 ghost use Rattle.truth.specs.Verdicts.{is_true};
-ghost use Rattle.qbf.specs.Stored.{block_of};
+ghost use Rattle.qbf.specs.Stored.{bound_by, block_of};
 ghost use Rattle.qbf.specs.Held.{qbf_of};
 
 use crate::block::Block;
@@ -33,7 +33,8 @@ pub(crate) fn satisfied_by(formula: &Formula, variable: u32, so: bool) -> u128
 
 // The clauses that a value of a block satisfies.
 fn settle(formula: &Formula, block: &Block, value: u16) -> u128
-    ensures { result ≡ settled (qbf_of formula.now).matrix block.now.variables.items value }
+    requires { all (ranged max_variables) (bound_by block.now) ≡ true }
+    ensures { result ≡ settled (qbf_of formula.now).matrix (bound_by block.now) value }
 {
     let variables = block.bound();
     let mut all = 0;
@@ -51,21 +52,25 @@ fn left_digit(clause: &Clause, by: Assignment) -> u128
     if clause.satisfied(by) { 0 } else { 1 }
 }
 
-// The clauses that an assignment leaves of all: each clause adds its digit below those after it. A recursion, as the
-// definition is: a loop would need an invariant, and no search calls it.
+// The clauses that an assignment leaves of all: each clause adds its digit below those after it.
 fn unsatisfied(clauses: &[Clause], by: Assignment) -> u128
     requires { length clauses.now ≤ max_clauses }
     ensures { result ≡ rest clauses.now by.trues by.falses (whole clauses.now) }
 {
-    let Some((clause, others)) = clauses.split_first() else {
-        return 0;
-    };
-    left_digit(clause, by) + 2 * unsatisfied(others, by)
+    // by `split_last`, as the walk over clauses that gathers occurrences
+    let mut found = 0;
+    let mut left = clauses;
+    while let Some((clause, before)) = left.split_last() {
+        found = left_digit(clause, by) + 2 * found;
+        left = before;
+    }
+    found
 }
 
 // The mask of a block's variables, and of those in another mask.
 fn mask_with(block: &Block, others: u64) -> u64
-    ensures { result ≡ bit_or others (mask_of block.now.variables.items) }
+    requires { all (ranged max_variables) (bound_by block.now) ≡ true }
+    ensures { result ≡ bit_or others (mask_of (bound_by block.now)) }
 {
     let variables = block.bound();
     let mut all = others;
@@ -77,6 +82,7 @@ fn mask_with(block: &Block, others: u64) -> u64
 
 // The mask of the variables that some blocks bind.
 fn mask_of(blocks: &[Block]) -> u64
+    requires { all (ranged max_variables) (bound_in (map block_of blocks.now)) ≡ true }
     ensures { result ≡ mask_of (bound_in (map block_of blocks.now)) }
 {
     let mut all = 0;

@@ -1,5 +1,4 @@
 use Rattle.std.proofs.Common.{◌≡◌, ℕ, Ok, Err, [], ◌∷◌, ◌++◌, sym, ap, ◌∙◌, ap₂, subst, rules}
-use Rattle.arrayvec.specs.ArrayVec.{ArrayVec}
 use Rattle.truth.specs.Syntax.{bound_in}
 use Rattle.qbf.specs.Bound.{Binds}
 use Rattle.qbf.specs.Stored.{block_of}
@@ -28,7 +27,7 @@ unreachable-requires c =
 pub returns : goal.returns
 returns c =
     let made = c.in-Some-new.ensures in
-    let is : block_of c.in-Some-new.block ≡ record { quantifier = c.args.quantifier; variables = c.in-Some.variables.items } = ap₂ (λ q (v : ArrayVec ℕ). record { quantifier = q; variables = v.items }) made.0 made.1 in (
+    let is : block_of c.in-Some-new.block ≡ record { quantifier = c.args.quantifier; variables = c.in-Some.variables.items } = ap₂ (λ q vs. record { quantifier = q; variables = vs }) made.0 made.1 in (
       block_placed c.args.n c.args.header.counts c.args.prefix.now c.args.quantifier c.args.next c.args.line.now _ _ c.in_ok-numbers.ensures c.in-Some.variables c.in-Some.is (search rules)
           c.in-Some-bind.bound (rw c.as_slice.ensures.value at c.in-Some-bind.ensures) (sym c.if-misplaced.ensures) ∙ ap Ok (sym is),
       search rules,

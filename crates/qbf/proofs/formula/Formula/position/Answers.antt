@@ -1,7 +1,11 @@
 use Rattle.std.proofs.Common.{Err, ap, ◌∙◌}
 use native.Mathlib.Nat.{sub-zero}
-use Rattle.qbf.proofs.Positioning.{position_off, position_on}
+use Rattle.qbf.proofs.Positioning.{first_ranged, position_off, position_on}
 use Rattle.qbf.proofs.formula.Formula.position.Goals as goal
+
+pub mask_of-variables-requires : goal.mask_of-variables-requires
+mask_of-variables-requires c =
+    simp sub-zero (first_ranged c.args.self.now c.list-blocks.result.now c.list-blocks.ensures c.args.decided c.args.word)
 
 pub returns-then-word-variables : goal.returns-then-word-variables
 returns-then-word-variables c =

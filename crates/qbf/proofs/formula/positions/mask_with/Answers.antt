@@ -6,7 +6,7 @@ use Rattle.qbf.proofs.formula.positions.mask_with.Goals as goal
 
 pub loop-x-preserved : goal.loop-x-preserved
 loop-x-preserved c =
-    let range = ap (all (ranged max_variables)) c.bound-variables.ensures ∙ c.args.block.now.range in
+    let range = ap (all (ranged max_variables)) c.bound-variables.ensures ∙ c.requires in
     let in_range = all-at (ranged max_variables) c.bound-variables.result.now c.loop-x.x-index 0 c.loop-x-test.true range in
     let one = c.mask-all.ensures.one in
     search (rules, mask_more, one)
