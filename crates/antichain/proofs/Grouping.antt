@@ -2,6 +2,7 @@
 use Rattle.std.proofs.Common.{◌≡◌, ℕ, ◌+◌, ◌-◌, ◌<◌, ◌≤◌, min, Bool, true, false, cond, not, eqb, ltb, leb, List, [], ◌∷◌, length, get_or, take, drop, filter, Option, sym, refl, ap, ◌∙◌, subst, inl, inr, zero-add, arith}
 use lib.Seq.{paste}
 use Rattle.std.specs.List.{AllByRecursion}
+use Rattle.std.proofs.ByRecursion.{All-weaker, kept_by_passes}
 use Rattle.std.proofs.lemmas.List.{take-take, length-drop}
 use Rattle.std.proofs.lemmas.List.Elements.{filter_agree}
 use Rattle.std.proofs.lemmas.List.Edits.{take-paste}
@@ -13,7 +14,7 @@ use Rattle.antichain.specs.Lookups.{Told}
 use Rattle.antichain.specs.Adding.{uncovered, above, placed}
 use Rattle.antichain.specs.Antichain.{ApartFrom}
 use Rattle.antichain.specs.Layouts.{upto, Ordered, Laid}
-use Rattle.antichain.proofs.Canonical.{before_levels}
+use Rattle.antichain.proofs.Canonical.{before_levels, before_by_level}
 use Rattle.antichain.proofs.Kept.{length-kept, kept_sure, kept_both, count_out, count_in}
 use Rattle.antichain.proofs.Sorting.{ordered_kept, ordered_placed, count_placed}
 use Rattle.antichain.proofs.Covering.{told_kept, apart_kept, apart_placed}
@@ -138,6 +139,17 @@ module _ {E : Type 0} {v s : E → ℕ} {c b : E → E → Bool} (w : Rules v s 
       spared_last =
           let f = last l (omega (arith, w.most e)) in
           ap (uncovered c e) f ∙ kept_sure (λ x. ltb l (v x)) (λ x. not (c e x)) (λ x m. not_from_false (c e x) (other e x (λ q. omega (arith, ltb-true l (v x) m)))) xs ∙ sym f
+
+      -- e comes before none of the levels below its own, and before all of those above
+      pub after_first : AllByRecursion (λ x. b e x ≡ false) (take (get_or starts (l - 1) 0) t)
+      after_first =
+          subst (AllByRecursion (λ x. b e x ≡ false)) (sym (first (l - 1) (omega (arith, w.most e))))
+          (All-weaker _ _ (λ x k. (before_by_level w x e (omega (arith, leb-true (v x) (l - 1) k, w.least e))).1) (upto v (l - 1) xs) (kept_by_passes (λ x. leb (v x) (l - 1)) xs))
+
+      pub before_last : AllByRecursion (λ x. b e x ≡ true) (drop (get_or starts l 0) xs)
+      before_last =
+          subst (AllByRecursion (λ x. b e x ≡ true)) (sym (last l (omega (arith, w.most e))))
+          (All-weaker _ _ (λ x k. (before_by_level w e x (omega (arith, ltb-true l (v x) k))).0) (above v l xs) (kept_by_passes (λ x. ltb l (v x)) xs))
 
       -- how many are left up to a level, where those that e covers are gone
       count_left : (k : ℕ) → l ≤ k → length (upto v k (uncovered c e xs)) + length xs ≡ length (upto v k xs) + length (uncovered c e xs)

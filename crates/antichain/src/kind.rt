@@ -19,6 +19,15 @@ pub trait LeveledSet: Copy {
     fn set(&self) -> u128
         ensures { result ≡ set self.now };
 
+    // Prints a kind of it, where the kinds print otherwise than what they are made of.
+    fn fmt_kind<W: fmt::Write>(
+        &self,
+        _inside: bool,
+        _f: &mut fmt::Formatter<W>,
+    ) -> Option<fmt::Result> {
+        None
+    }
+
     ghost range: { (x : Self) → (1 ≤ level x) × (level x ≤ max_level) };
 }
 
@@ -33,10 +42,12 @@ fn is_inside(s: u128, t: u128) -> bool
 #[derive(Clone, Copy)]
 pub struct Covering<T, const INSIDE: bool>(pub T);
 
-impl<T: fmt::Debug, const INSIDE: bool> fmt::Debug for Covering<T, INSIDE> {
-    // As what it is made of.
+impl<T: LeveledSet + fmt::Debug, const INSIDE: bool> fmt::Debug for Covering<T, INSIDE> {
     fn fmt<W: fmt::Write>(&self, f: &mut fmt::Formatter<W>) -> fmt::Result {
-        self.0.fmt(f)
+        match self.0.fmt_kind(INSIDE, f) {
+            Some(printed) => printed,
+            None => self.0.fmt(f),
+        }
     }
 }
 

@@ -74,8 +74,11 @@ impl<'a, E: Entry> Levels<'a, E> {
         ensures places { self.new.places ≡ self.old.places }
         ensures held { self.new.entries ≡ placed E.Entry.before e self.old.entries }
     {
-        put_in_order(self.table, self.starts[MAX_LEVEL], e);
-        raise(&mut self.starts[e.level() as usize..]);
+        let l = e.level() as usize;
+        let from = self.starts[l - 1];
+        let to = self.starts[l];
+        put_in_order(self.table, from, to, self.starts[MAX_LEVEL], e);
+        raise(&mut self.starts[l..]);
     }
 }
 

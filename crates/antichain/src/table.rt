@@ -1,6 +1,7 @@
 // What the stores do with the entries of a lent table.
-ghost use Rattle.std.specs.Prelude.{◌≡◌, ◌+◌, ◌<◌, ◌≤◌, min, Bool, length, take, filter};
+ghost use Rattle.std.specs.Prelude.{◌≡◌, ◌+◌, ◌<◌, ◌≤◌, min, Bool, true, false, length, take, drop, filter};
 ghost use Rattle.std.specs.Fn.{FnReturnsAt};
+ghost use Rattle.std.specs.List.{AllByRecursion};
 ghost use Rattle.antichain.specs.Limits.{max_entries};
 ghost use Rattle.antichain.specs.Lookups.{Told};
 ghost use Rattle.antichain.specs.Adding.{placed};
@@ -46,12 +47,15 @@ pub(crate) fn retain<T: Copy, F: Fn(&T) -> bool>(items: &mut [T], test: F) -> us
 }
 
 // Puts e into its place among the first `len`, which are in order.
-pub(crate) fn put_in_order<E: Entry>(table: &mut [E], len: usize, e: E)
-    requires room { len < length table.old }
+// It comes before none of those below `from`, and before all from `to` on.
+pub(crate) fn put_in_order<E: Entry>(table: &mut [E], from: usize, to: usize, len: usize, e: E)
+    requires within { (from ≤ to) × (to ≤ len) × (len < length table.old) }
     requires ordered { Ordered E.Entry.before (take len table.old) }
+    requires first { AllByRecursion (λ x. E.Entry.before e x ≡ false) (take from table.old) }
+    requires last { AllByRecursion (λ x. E.Entry.before e x ≡ true) (drop to (take len table.old)) }
     ensures { take (len + 1) table.new ≡ placed E.Entry.before e (take len table.old) }
 {
-    let at = table[..len].partition_point(|x| !e.before(x));
+    let at = from + table[from..to].partition_point(|x| !e.before(x));
     table.copy_within(at..len, at + 1);
     table[at] = e;
 }

@@ -1,8 +1,11 @@
 ghost use Rattle.std.specs.Prelude.{◌≡◌, ◌≤◌, false, true, MatchResult};
 ghost use Rattle.antichain.specs.Limits.{max_level};
+ghost use Rattle.entries.specs.declared.entry.Entry.{Entry};
 ghost use Rattle.entries.specs.Covering.{storable};
+ghost use Rattle.entries.specs.Lawful.{CoversFor, covers_for};
 
 use crate::entry::Entry;
+use antichain::entry::Entry as Kind;
 use antichain::kind::{Covering, LeveledSet};
 use antichain::limits::MAX_LEVEL;
 use std::error::Error;
@@ -20,6 +23,32 @@ pub type Winning = Covering<Storable, true>;
 
 // An entry for false: it covers the sets that its own lies inside.
 pub type Losing = Covering<Storable, false>;
+
+// A kind of entries for true: they cover as those of certificates do, the sets inside theirs.
+pub trait ForTrue: Kind {
+    ghost entry: { Self → Entry };
+
+    ghost certified: { CoversFor true entry Self.Entry.covers Self.Entry.before };
+}
+
+// A kind of entries for false: they cover as those of certificates do, the sets around theirs.
+pub trait ForFalse: Kind {
+    ghost entry: { Self → Entry };
+
+    ghost certified: { CoversFor false entry Self.Entry.covers Self.Entry.before };
+}
+
+impl ForTrue for Winning {
+    ghost entry = { λ w. w.0.entry };
+
+    ghost certified = { covers_for true (λ w. w.0.entry) (λ w. w.0.range) };
+}
+
+impl ForFalse for Losing {
+    ghost entry = { λ l. l.0.entry };
+
+    ghost certified = { covers_for false (λ l. l.0.entry) (λ l. l.0.range) };
+}
 
 // A level that stores do not know.
 #[derive(Clone, Copy, Debug, PartialEq, Eq)]
@@ -67,6 +96,16 @@ impl LeveledSet for Storable {
 
     fn set(&self) -> u128 {
         self.entry.set
+    }
+
+    // By the name of the kind, with the entry.
+    fn fmt_kind<W: fmt::Write>(
+        &self,
+        inside: bool,
+        f: &mut fmt::Formatter<W>,
+    ) -> Option<fmt::Result> {
+        let name = if inside { "Winning" } else { "Losing" };
+        Some(f.debug_struct(name).field("entry", &self.entry).finish())
     }
 }
 
